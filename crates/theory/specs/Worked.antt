@@ -1,0 +1,90 @@
+-- Worked cases: small groups whose trees and counts were worked out by hand, held against the definitions.
+-- `Cell`, `cells`: a tree as it is printed, in the order of its nodes; `Case`, `outcome`, `rows`: the table; `WorkedCases`: the definitions give each row.
+-- Assumes nothing.
+use mathlib.Core.Path.{_≡_}
+use mathlib.Core.List.{List, [], _∷_, _++_}
+use Prim.Native.Nat.{ℕ, zero, suc, _+_}
+use lib.ListN.{length}
+use Rattle.theory.specs.Secrets.{Secret}
+use Rattle.theory.specs.Tree.{Tree, leaf, node, Leaf, blankLeaf, occupied, Parent, blankParent, keyed, height}
+use Rattle.theory.specs.Path.{Laid}
+use Rattle.theory.specs.Group.{Change, renew, remove, add, Commit, Group, group, listed, message, pathAt}
+
+-- one node as it is printed
+pub data Cell : Type 0 where
+  blank : Cell
+  seat : (member : ℕ) → Cell
+  star : (unmerged : List ℕ) → Cell
+
+abbrev pub leafCell : {K : Type 0} → Leaf K → Cell
+leafCell blankLeaf = blank
+leafCell (occupied m k) = seat m
+
+abbrev pub parentCell : {K : Type 0} → Parent K → Cell
+parentCell blankParent = blank
+parentCell (keyed k un) = star un
+
+-- the nodes from the left, each parent between its halves
+unfoldable pub cells : {K : Type 0} → Tree K → List Cell
+cells (leaf x) = leafCell x ∷ []
+cells (node p l r) = cells l ++ (parentCell p ∷ cells r)
+
+-- one commit of a script that founder 0 begins, and what comes of it: the depth, node keys and boxes, and the nodes
+pub record Case : Type 0 where
+  pub depth : ℕ
+  pub keys : ℕ
+  pub boxes : ℕ
+  pub nodes : List Cell
+
+-- what the definitions give for commit n of a script
+abbrev pub outcome : List Commit → ℕ → Case
+outcome script n =
+    let g = group 0 (listed script) n in
+    let h = group 0 (listed script) (suc n) in
+    record {
+      depth = height (h .tree);
+      keys = pathAt (listed script n) (suc (g .epoch)) (g .tree) .levels;
+      boxes = length (message 0 (listed script) n);
+      nodes = cells (h .tree) }
+
+pub record Row : Type 0 where
+  pub script : List Commit
+  pub commit : ℕ
+  pub gives : Case
+
+abbrev pub by : ℕ → Change → Commit
+by m c = record { committer = m; change = c }
+
+abbrev pub row : List Commit → ℕ → ℕ → ℕ → ℕ → List Cell → Row
+row script n d k b ns = record { script = script; commit = n; gives = record { depth = d; keys = k; boxes = b; nodes = ns } }
+
+-- three come, each renews, and the founder is removed
+abbrev pub shift : List Commit
+shift =
+    by 0 (add 1) ∷ by 0 (add 2) ∷ by 2 renew ∷ by 1 (add 3) ∷ by 3 renew ∷ by 0 renew ∷ by 1 (remove 0) ∷ []
+
+-- five sit, one is removed, and another takes its leaf under keyed parents
+abbrev pub reseated : List Commit
+reseated = by 0 (add 1) ∷ by 0 (add 2) ∷ by 0 (add 3) ∷ by 0 (add 4) ∷ by 0 (remove 1) ∷ by 4 (add 5) ∷ []
+
+abbrev pub rows : List Row
+rows =
+    row shift 0 1 1 2 (seat 0 ∷ star [] ∷ seat 1 ∷ [])
+    ∷ row shift 1 2 2 3 (seat 0 ∷ star [] ∷ seat 1 ∷ star [] ∷ seat 2 ∷ blank ∷ blank ∷ [])
+    ∷ row shift 2 2 1 1 (seat 0 ∷ star [] ∷ seat 1 ∷ star [] ∷ seat 2 ∷ blank ∷ blank ∷ [])
+    ∷ row shift 3 2 2 4 (seat 0 ∷ star [] ∷ seat 1 ∷ star [] ∷ seat 2 ∷ blank ∷ seat 3 ∷ [])
+    ∷ row shift 4 2 2 2 (seat 0 ∷ star [] ∷ seat 1 ∷ star [] ∷ seat 2 ∷ star [] ∷ seat 3 ∷ [])
+    ∷ row shift 5 2 2 2 (seat 0 ∷ star [] ∷ seat 1 ∷ star [] ∷ seat 2 ∷ star [] ∷ seat 3 ∷ [])
+    ∷ row shift 6 2 1 1 (blank ∷ blank ∷ seat 1 ∷ star [] ∷ seat 2 ∷ star [] ∷ seat 3 ∷ [])
+    ∷ row reseated 5 3 1 3
+      (seat 0 ∷ blank ∷ seat 5 ∷ star (5 ∷ []) ∷ seat 2 ∷ blank ∷ seat 3 ∷ star [] ∷ seat 4 ∷ blank ∷ blank ∷ blank ∷ blank ∷ blank ∷ blank ∷ [])
+    ∷ []
+
+-- every row of a table is what the definitions give
+abbrev pub Given : List Row → Type 0
+Given [] = Unit {0}
+Given (r ∷ rs) = (outcome (r .script) (r .commit) ≡ r .gives) × Given rs
+
+-- the worked cases are what the definitions give
+abbrev pub WorkedCases : Type 0
+WorkedCases = Given rows
