@@ -1,9 +1,16 @@
-// The ratchet tree: leaves, parents, and what is done to them.
+// The ratchet tree: members at its leaves, node keys at its parents, and what is asked of it and done to it.
+mod ask;
+mod member;
+mod node;
+mod part;
+mod split;
+mod tree;
 
-// A member's number, 0 to 65534.
-#[derive(Clone, Copy, PartialEq, Eq, Debug)]
-pub struct MemberId(pub u16);
-
-// The public half of a key.
-#[derive(Clone, Copy, PartialEq, Eq, Debug)]
-pub struct PublicKey(pub [u8; 32]);
+pub use member::MemberId;
+pub use member::PublicKey;
+pub use node::Leaf;
+pub use node::Node;
+pub use node::Parent;
+pub use part::Part;
+pub use split::Split;
+pub use tree::RatchetTree;

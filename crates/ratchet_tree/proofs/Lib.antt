@@ -1,0 +1,3 @@
+pub mod Tests
+pub mod Trees
+pub mod Counts

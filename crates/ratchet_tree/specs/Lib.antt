@@ -1,0 +1,3 @@
+pub mod Nodes
+pub mod Parts
+pub mod Trees
