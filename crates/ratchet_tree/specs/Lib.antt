@@ -1,3 +1,4 @@
 pub mod Nodes
 pub mod Parts
 pub mod Trees
+pub mod Keys

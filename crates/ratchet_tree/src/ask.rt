@@ -16,7 +16,7 @@ use tree_math::LeafIndex;
 
 impl Node {
     // Does the member sit at this node, taken as a leaf?
-    fn seats(&self, member: MemberId) -> bool
+    pub fn seats(&self, member: MemberId) -> bool
         ensures { λ r. ⌜ r ≡ isAt (member .0) (leafOf (now (self .entry))) ⌝ }
     {
         match self {
@@ -29,7 +29,7 @@ impl Node {
     }
 
     // Does anybody sit at this node, taken as a leaf?
-    fn is_occupied(&self) -> bool
+    pub fn is_occupied(&self) -> bool
         ensures { λ r. ⌜ r ≡ not (isBlank (leafOf (now (self .entry)))) ⌝ }
     {
         match self {

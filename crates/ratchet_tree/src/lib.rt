@@ -1,11 +1,13 @@
 // The ratchet tree: members at its leaves, node keys at its parents, and what is asked of it and done to it.
 mod ask;
+mod keys;
 mod member;
 mod node;
 mod part;
 mod split;
 mod tree;
 
+pub use keys::Keyed;
 pub use member::MemberId;
 pub use member::PublicKey;
 pub use node::Leaf;

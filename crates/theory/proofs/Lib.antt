@@ -1,1 +1,10 @@
 pub mod Worked
+pub mod Tests
+pub mod Places
+pub mod Removal
+pub mod Addition
+pub mod Growth
+pub mod Runs
+pub mod Resolution
+pub mod Level
+pub mod Position

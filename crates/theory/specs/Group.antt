@@ -85,7 +85,8 @@ founded m =
       tree = leaf (occupied m (drawn newcomerKey m 0));
       epoch = 0;
       secret = drawn firstEpoch m 0;
-      sent = [] }
+      sent = [];
+    }
 
 -- the epoch's secret, also sealed to a newcomer's init key
 abbrev pub welcome : Change → ℕ → Secret → List Box
@@ -107,7 +108,8 @@ moved c e g x =
       tree = x .tree;
       epoch = e;
       secret = epochSecret (g .secret) c e x;
-      sent = g .sent ++ boxesOf (g .secret) c e x }
+      sent = g .sent ++ boxesOf (g .secret) c e x;
+    }
 
 -- is the commit carried out
 abbrev pub allowed : Commit → Group → Bool

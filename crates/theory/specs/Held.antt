@@ -27,5 +27,5 @@ held m (node p l r) =
 unfoldable pub heldAt : {K : Type 0} → ℕ → ℕ → Tree K → List K
 heldAt m h (leaf x) = cond (eqb h 0) (cond (isAt m x) (keyAt x) []) []
 heldAt m h (node p l r) =
-    cond (seated m l) (cond (eqb h (suc (height l))) (nodeKeyHeld m p) (heldAt m h l))
-    (cond (seated m r) (cond (eqb h (suc (height l))) (nodeKeyHeld m p) (heldAt m h r)) [])
+    cond (eqb h (suc (height l))) (cond (seated m l || seated m r) (nodeKeyHeld m p) [])
+    (cond (seated m l) (heldAt m h l) (heldAt m h r))

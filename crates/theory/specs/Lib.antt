@@ -5,3 +5,5 @@ pub mod Path
 pub mod Held
 pub mod Group
 pub mod Worked
+pub mod Places
+pub mod Laws

@@ -37,7 +37,8 @@ climbed keys x other put =
     record {
       tree = put (parentLaid keys (x .levels) other) (x .tree);
       levels = levelAfter (x .levels) other;
-      targets = x .targets ++ sealedTo (x .levels) other }
+      targets = x .targets ++ sealedTo (x .levels) other;
+    }
 
 -- m takes a new leaf key and lays node keys from its leaf to the top; `keys i` is the node key of level i, from below
 unfoldable pub laid : {K : Type 0} → ℕ → K → (ℕ → K) → Tree K → Laid K

@@ -45,7 +45,8 @@ outcome script n =
       depth = height (h .tree);
       keys = pathAt (listed script n) (suc (g .epoch)) (g .tree) .levels;
       boxes = length (message 0 (listed script) n);
-      nodes = cells (h .tree) }
+      nodes = cells (h .tree);
+    }
 
 pub record Row : Type 0 where
   pub script : List Commit
@@ -77,7 +78,7 @@ rows =
     ∷ row shift 5 2 2 2 (seat 0 ∷ star [] ∷ seat 1 ∷ star [] ∷ seat 2 ∷ star [] ∷ seat 3 ∷ [])
     ∷ row shift 6 2 1 1 (blank ∷ blank ∷ seat 1 ∷ star [] ∷ seat 2 ∷ star [] ∷ seat 3 ∷ [])
     ∷ row reseated 5 3 1 3
-      (seat 0 ∷ blank ∷ seat 5 ∷ star (5 ∷ []) ∷ seat 2 ∷ blank ∷ seat 3 ∷ star [] ∷ seat 4 ∷ blank ∷ blank ∷ blank ∷ blank ∷ blank ∷ blank ∷ [])
+    (seat 0 ∷ blank ∷ seat 5 ∷ star (5 ∷ []) ∷ seat 2 ∷ blank ∷ seat 3 ∷ star [] ∷ seat 4 ∷ blank ∷ blank ∷ blank ∷ blank ∷ blank ∷ blank ∷ [])
     ∷ []
 
 -- every row of a table is what the definitions give

@@ -1,0 +1,51 @@
+// The laws of trees and of runs. Each function here has one as its contract.
+ghost use Rattle.theory.specs.Laws.{Removal, Addition, UnmergedSince, Growth, ResolutionReaches, LevelKept, PositionIs};
+
+// A removal empties the member's leaf and every parent above it, and touches nothing else.
+pub fn removal_holds() -> u8
+    ensures { λ _. ⌜ Removal ⌝ }
+{
+    0
+}
+
+// A newcomer takes the leftmost blank leaf and is unmerged above it; a full tree takes nobody.
+pub fn addition_holds() -> u8
+    ensures { λ _. ⌜ Addition ⌝ }
+{
+    0
+}
+
+// A newcomer is unmerged above its leaf exactly where there was a key before it came.
+pub fn unmerged_since_holds() -> u8
+    ensures { λ _. ⌜ UnmergedSince ⌝ }
+{
+    0
+}
+
+// Growing keeps everybody's place.
+pub fn growth_holds() -> u8
+    ensures { λ _. ⌜ Growth ⌝ }
+{
+    0
+}
+
+// In every part of every tree of a run, the resolution is empty exactly if nobody is seated there.
+pub fn resolution_reaches_holds() -> u8
+    ensures { λ _. ⌜ ResolutionReaches ⌝ }
+{
+    0
+}
+
+// Every tree of a run has all leaves at one depth, and is no deeper than the limit.
+pub fn level_kept_holds() -> u8
+    ensures { λ _. ⌜ LevelKept ⌝ }
+{
+    0
+}
+
+// A member sits at the leaf that its position says, and has none exactly if it is not seated.
+pub fn position_is_holds() -> u8
+    ensures { λ _. ⌜ PositionIs ⌝ }
+{
+    0
+}
