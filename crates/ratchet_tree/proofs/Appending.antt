@@ -36,7 +36,7 @@ leafKeys-one m t = append-nil (leafKey m t)
 
 -- one member more
 pub leafKeys-more : {K : Type 0} (ms : List MemberId) (i : ℕ) (d : MemberId) (t : Tree K) → i < length ms →
-  leafKeys (numbers (take (i + 1) ms)) t ≡ leafKeys (numbers (take i ms)) t ++ leafKey (getD ms i d .0) t
+    leafKeys (numbers (take (i + 1) ms)) t ≡ leafKeys (numbers (take i ms)) t ++ leafKey (getD ms i d .0) t
 leafKeys-more ms i d t h =
     ap (λ l. leafKeys (numbers l) t) (take-more ms i d h)
     ∙ ap (λ l. leafKeys l t) (map-append (λ (m : MemberId). m .0) (take i ms) (getD ms i d ∷ []))

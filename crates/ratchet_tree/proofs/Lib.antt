@@ -2,3 +2,8 @@ pub mod Tests
 pub mod Trees
 pub mod Counts
 pub mod Appending
+pub mod Holding
+pub mod Cuts
+pub mod Removing
+pub mod Adding
+pub mod Copies

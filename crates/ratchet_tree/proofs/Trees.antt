@@ -27,6 +27,10 @@ unfolding treeOf
 tree-leaf zero ns x e len is = ap (λ (n : Node). leaf (leafOf n)) (sym (is ∙ getD-default ns 0 x noNode (omega (arith, span-pos 0))))
 tree-leaf (suc h) ns x e len is = absurd (omega arith)
 
+-- the same, read by some default
+pub tree-first : (h : ℕ) (ns : List Node) (d : Node) → h ≡ 0 → length ns ≡ span h → treeOf h ns ≡ leaf (leafOf (getD ns 0 d))
+tree-first h ns d e len = tree-leaf h ns (getD ns 0 d) e len (getD-default ns 0 d (getD ns 0 d) (omega (arith, span-pos h)))
+
 -- a line has a first node
 pub first-below : (h : ℕ) (ns : List Node) → length ns ≡ span h → 0 < length ns
 first-below h ns len = omega (arith, span-pos h)
@@ -34,16 +38,16 @@ first-below h ns len = omega (arith, span-pos h)
 -- the halves of a line and the node between them, as calls hand them back
 module _ (h : ℕ) (ns : List Node) (above : h ≡ 0 → ⊥) (len : length ns ≡ span h) where
   pub tree-node : {l r : List Node} {x : Node} → l ≡ leftHalf ns → r ≡ rightHalf ns → x ≡ getD ns (middle (length ns)) x →
-    treeOf h ns ≡ node (parentOf x) (treeOf (h - 1) l) (treeOf (h - 1) r)
+      treeOf h ns ≡ node (parentOf x) (treeOf (h - 1) l) (treeOf (h - 1) r)
   tree-node {l} {r} {x} il ir ix = rw (il, ir) (at h above len)
     where
       at : (h : ℕ) → (h ≡ 0 → ⊥) → length ns ≡ span h →
-        treeOf h ns ≡ node (parentOf x) (treeOf (h - 1) (leftHalf ns)) (treeOf (h - 1) (rightHalf ns))
+          treeOf h ns ≡ node (parentOf x) (treeOf (h - 1) (leftHalf ns)) (treeOf (h - 1) (rightHalf ns))
       at zero a e = absurd (a refl)
       at (suc n) a e =
           let top : x ≡ getD ns (span n) noNode =
-              ix ∙ getD-default ns (middle (length ns)) x noNode (omega (arith, span-pos (suc n)))
-              ∙ ap (λ (i : ℕ). getD ns i noNode) (middle-is n ns e) in
+          ix ∙ getD-default ns (middle (length ns)) x noNode (omega (arith, span-pos (suc n)))
+          ∙ ap (λ (i : ℕ). getD ns i noNode) (middle-is n ns e) in
           rw (height-below n, left-half-is n ns e, right-half-is n ns e, top) (tree-suc n ns)
 
   pub left-span : {l : List Node} → l ≡ leftHalf ns → length l ≡ span (h - 1)

@@ -1,5 +1,5 @@
 -- The tree that a line of nodes stands for.
--- `leafOf`, `parentOf`: a node taken as a leaf or as a parent; `treeOf`: the tree of a height in a line of nodes.
+-- `leafOf`, `parentOf`: a node taken as a leaf or as a parent; `seen`: both; `treeOf`: the tree of a height in a line of nodes.
 -- Assumes nothing.
 use mathlib.Core.List.{List, [], _∷_, map}
 use Prim.Native.Nat.{ℕ, zero, suc, _+_}
@@ -34,6 +34,10 @@ leafOf (node.the-variants.Parent p) = theory.blankLeaf
 abbrev pub parentOf : node.Node → theory.Parent PublicKey
 parentOf (node.the-variants.Leaf x) = theory.blankParent
 parentOf (node.the-variants.Parent p) = asParent p
+
+-- all that a tree can show of a node
+abbrev pub seen : node.Node → theory.Leaf PublicKey × theory.Parent PublicKey
+seen n = (leafOf n, parentOf n)
 
 -- what stands past the end of a line
 abbrev pub noNode : node.Node

@@ -47,7 +47,11 @@ impl Node {
     fn leaf_key_of(&self, member: MemberId) -> Option<PublicKey>
         ensures { λ r. ⌜ listOf r ≡ cond (isAt (member .0) (leafOf (now (self .entry)))) (keyAt (leafOf (now (self .entry)))) [] ⌝ }
     {
-        if self.seats(member) { self.leaf_key() } else { None }
+        if self.seats(member) {
+            self.leaf_key()
+        } else {
+            None
+        }
     }
 
     // The key and unmerged members of this node, taken as a parent.
@@ -58,7 +62,10 @@ impl Node {
             Node::Leaf(_) => None,
             Node::Parent(parent) => match parent {
                 Parent::Blank => None,
-                Parent::Keyed { key, unmerged } => Some(Keyed { key: *key, unmerged }),
+                Parent::Keyed { key, unmerged } => Some(Keyed {
+                    key: *key,
+                    unmerged,
+                }),
             },
         }
     }
@@ -99,7 +106,11 @@ impl<'a> Part<'a> {
         }
     }
 
-    fn push_leaf_keys(self, members: &[MemberId], out: &mut Vec<PublicKey>) -> Result<(), AllocError>
+    fn push_leaf_keys(
+        self,
+        members: &[MemberId],
+        out: &mut Vec<PublicKey>,
+    ) -> Result<(), AllocError>
         ensures { λ r. ⌜ Appends (vec-items (now (out .entry))) (leafKeys (numbers (now (members .entry))) (partTree (self .entry))) (vec-items (now (out .exit))) r ⌝ }
     {
         for member in members {
@@ -143,7 +154,11 @@ impl Node {
         ensures { λ r. ⌜ listOf r ≡ nodeKeyHeld (member .0) (parentOf (now (self .entry))) ⌝ }
     {
         let keyed = self.node_key()?;
-        if is_among(keyed.unmerged, member) { None } else { Some(keyed.key) }
+        if is_among(keyed.unmerged, member) {
+            None
+        } else {
+            Some(keyed.key)
+        }
     }
 }
 
@@ -163,7 +178,11 @@ impl<'a> Part<'a> {
             }
             Split::Parent(left, node, right) => {
                 if height == self.height {
-                    if self.is_seated(member) { node.node_key_held(member) } else { None }
+                    if self.is_seated(member) {
+                        node.node_key_held(member)
+                    } else {
+                        None
+                    }
                 } else if left.is_seated(member) {
                     left.key_held(member, height)
                 } else {

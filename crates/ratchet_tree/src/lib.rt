@@ -1,12 +1,17 @@
 // The ratchet tree: members at its leaves, node keys at its parents, and what is asked of it and done to it.
+mod add;
 mod ask;
+mod copy;
+mod error;
 mod keys;
 mod member;
 mod node;
 mod part;
+mod remove;
 mod split;
 mod tree;
 
+pub use error::TreeError;
 pub use keys::Keyed;
 pub use member::MemberId;
 pub use member::PublicKey;

@@ -12,7 +12,10 @@ pub enum Leaf {
 #[derive(Drop)]
 pub enum Parent {
     Blank,
-    Keyed { key: PublicKey, unmerged: Vec<MemberId> },
+    Keyed {
+        key: PublicKey,
+        unmerged: Vec<MemberId>,
+    },
 }
 
 #[derive(Drop)]

@@ -22,8 +22,14 @@ impl<'a> Part<'a> {
             return Split::Leaf(&nodes[0]);
         }
         let height = self.height - 1;
-        let left = Part { nodes: left_half(nodes), height };
-        let right = Part { nodes: right_half(nodes), height };
+        let left = Part {
+            nodes: left_half(nodes),
+            height,
+        };
+        let right = Part {
+            nodes: right_half(nodes),
+            height,
+        };
         Split::Parent(left, &nodes[nodes.len() / 2], right)
     }
 }
@@ -33,6 +39,9 @@ impl RatchetTree {
     pub fn as_part(&self) -> Part<'_>
         ensures { λ r. ⌜ partTree r ≡ theTree (now (self .entry)) ⌝ }
     {
-        Part { nodes: &self.nodes, height: self.depth }
+        Part {
+            nodes: &self.nodes,
+            height: self.depth,
+        }
     }
 }

@@ -1,1 +1,5 @@
+pub mod Family
+pub mod Leaves
+pub mod Numbering
 pub mod Span
+pub mod Steps

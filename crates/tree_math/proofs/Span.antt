@@ -1,8 +1,8 @@
 -- What a line of `span (suc h)` nodes is made of: the left part, the middle node, the right part.
 -- `span-*`: numbers; `left-*`, `right-*`, `split-nodes`: the parts; `built-*`: a line put together;
--- `middle-set-*`, `left-write-*`, `right-write-*`: what a write leaves.
+-- `middle-set-*`, `left-write-*`, `right-write-*`, `all-written`: what a write leaves.
 use Prim.Native.Nat.{ℕ, zero, suc, _+_, _-_, _*_, _/_, _^_, _≤_, _<_}
-use mathlib.Core.Path.{_≡_, refl, sym, ap, subst, _∙_}
+use mathlib.Core.Path.{_≡_, refl, sym, ap, _∙_}
 use mathlib.Core.List.{List, [], _∷_, _++_}
 use native.Mathlib.Omega.{arith}
 use native.Mathlib.Nat.{pow-suc, suc-add}
@@ -10,7 +10,7 @@ use native.Mathlib.Numerals.{add-one}
 use lib.Pow.{pow-mono}
 use lib.ListN.{length, take, drop, getD, set}
 use borrow.Rule.Slice.PartMut.{putMid}
-use Rattle.std.proofs.shelf.Lists.{take-at, drop-at, getD-at, set-split, take-append-drop, drop-more, length-take-le, length-drop, length-append, take-set, drop-set-lt, getD-set-same, length-set, take-more, append-assoc, append-nil, drop-all, drop-drop}
+use Rattle.std.proofs.shelf.Lists.{take-at, drop-at, getD-at, set-split, set-at, take-append-drop, drop-more, length-take-le, length-drop, length-append, take-set, drop-set-lt, getD-set-same, length-set, take-more, append-assoc, append-nil, drop-all, drop-drop}
 use Rattle.std.proofs.shelf.Parts.{drop-append-drop, take-putMid-below}
 use Rattle.tree_math.specs.Span.{span, middle, leftHalf, rightHalf}
 
@@ -31,6 +31,9 @@ unfolding span
 span-pow zero = refl
 span-pow (suc h) = omega (arith, span-pow h, pow-suc 2 (h + 1), ap (λ (n : ℕ). 2 ^ n) (suc-add h 1))
 
+pub span-double : (h : ℕ) → span h + 1 ≡ 2 * 2 ^ h
+span-double h = omega (arith, span-pow h, ap (λ (n : ℕ). 2 ^ n) (add-one h))
+
 -- a deeper tree has more nodes
 pub span-mono : (a b : ℕ) → a ≤ b → span a ≤ span b
 span-mono a b l =
@@ -41,6 +44,11 @@ pub span-bound : (d : ℕ) → d ≤ 10 → span d ≤ 2047
 span-bound d l =
     let m : d + 1 ≤ 11 = omega arith in
     omega (arith, span-pow d, pow-mono m)
+
+-- the nodes of each of the two parts of a tree of height d
+pub half-nodes : (d n : ℕ) → n ≡ span d → 0 < d → n / 2 ≡ span (d - 1)
+half-nodes zero n e p = absurd (omega arith)
+half-nodes (suc h) n e p = let q : suc h - 1 ≡ h = omega arith in omega (arith, span-suc h, ap span q)
 
 -- a line put together of a left part, a node and a right part
 module _ {A : Type 0} (h : ℕ) (l : List A) (x : A) (r : List A) (is : length l ≡ span h) where
@@ -146,3 +154,21 @@ module _ {A : Type 0} (h a k : ℕ) (ns zs : List A) (len : length ns ≡ span (
   pub right-write-length : length (putMid a k ns zs) ≡ span (suc h)
   right-write-length =
       length-append (take a ns) (zs ++ drop k (drop a ns)) ∙ omega (arith, front-length, ap length right-rest, span-suc h)
+
+-- all written in turn, as by a recursion over `&mut ns[..m]`, then `ns[m]`, then `&mut ns[m + 1..]`
+module _ {A : Type 0} (h m : ℕ) (ns ys : List A) (x : A) (len : length ns ≡ span (suc h)) (at : m ≡ span h) (left : length ys ≡ span h) where
+  pub left-middle-written : set (putMid 0 m ns ys) m x ≡ ys ++ x ∷ drop (span h + 1) ns
+  left-middle-written =
+      ap (λ t. set t m x) (left-write-is h m ns ys len at left x)
+      ∙ set-at ys (getD ns (span h) x) (drop (span h + 1) ns) x m (left ∙ sym at)
+
+  pub left-middle-length : length (set (putMid 0 m ns ys) m x) ≡ span (suc h)
+  left-middle-length = ap length left-middle-written ∙ built-length h ys x (drop (span h + 1) ns) left (drop-length h ns len)
+
+  pub all-written : (k : ℕ) (zs : List A) → k ≡ span h → length zs ≡ span h → putMid (m + 1) k (set (putMid 0 m ns ys) m x) zs ≡ ys ++ x ∷ zs
+  all-written k zs ks right =
+      let rs : List A = drop (span h + 1) ns in
+      ap (λ t. putMid (m + 1) k t zs) left-middle-written
+      ∙ right-write-is h (m + 1) k (ys ++ x ∷ rs) zs (built-length h ys x rs left (drop-length h ns len)) (omega arith) ks right x
+      ∙ ap (λ t. t ++ getD (ys ++ x ∷ rs) (span h) x ∷ zs) (built-left h ys x rs left)
+      ∙ ap (λ y. ys ++ y ∷ zs) (built-middle h ys x rs left x)

@@ -18,8 +18,7 @@ pub fn right_half<T>(nodes: &[T]) -> &[T]
     ensures len { λ r. ⌜ length (now r) ≡ length (now (nodes .entry)) - (middle (length (now (nodes .entry))) + 1) ⌝ }
 {
     if nodes.is_empty() {
-        nodes
-    } else {
-        &nodes[nodes.len() / 2 + 1..]
+        return nodes;
     }
+    nodes.split_at(nodes.len() / 2 + 1).1
 }

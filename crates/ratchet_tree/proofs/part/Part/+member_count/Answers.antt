@@ -15,9 +15,13 @@ counts false = refl
 
 pub add-result : need.add-result
 add-result t c =
-    omega (arith, c .member-count .ensures, c .member-count-in-Parent .ensures
-    , members-few (c .in-Parent .left .height) (now (c .in-Parent .left .nodes)) (c .in-Parent .left .shallow)
-    , members-few (c .in-Parent .right .height) (now (c .in-Parent .right .nodes)) (c .in-Parent .right .shallow))
+    omega (
+      arith,
+      c .member-count .ensures,
+      c .member-count-in-Parent .ensures,
+      members-few (c .in-Parent .left .height) (now (c .in-Parent .left .nodes)) (c .in-Parent .left .shallow),
+      members-few (c .in-Parent .right .height) (now (c .in-Parent .right .nodes)) (c .in-Parent .right .shallow),
+    )
 
 pub returns-in-Leaf : need.returns-in-Leaf
 unfolding members

@@ -15,7 +15,7 @@ use Rattle.ratchet_tree.proofs.part.Part.+position.Needs as need
 pub add-result-in-Some-position : need.add-result-in-Some-position
 add-result-in-Some-position t c =
     let right : c .in-Some-position .leaf .0 < leaves (partTree (c .in-Parent .right)) =
-        position-below (c .args .member .0) (partTree (c .in-Parent .right)) (c .in-Some-position .leaf .0) (sym (c .in-Some-position .ensures tt)) in
+    position-below (c .args .member .0) (partTree (c .in-Parent .right)) (c .in-Some-position .leaf .0) (sym (c .in-Some-position .ensures tt)) in
     omega (arith, leaves-part (c .in-Parent .left), leaves-part (c .in-Parent .right))
 
 pub returns-then-seats : need.returns-then-seats

@@ -30,4 +30,5 @@ loop-member-again c =
 pub returns : need.returns
 returns c =
     record {
-      items = λ k. c .loop-member .inv ∙ ap (λ l. vec-items (c .args .out .now) ++ leafKeys (numbers l) (partTree (c .args .self))) (take-all (c .loop-member .member-index) (c .args .members .now) (c .loop-member-test .left)) }
+      items = λ k. c .loop-member .inv ∙ ap (λ l. vec-items (c .args .out .now) ++ leafKeys (numbers l) (partTree (c .args .self))) (take-all (c .loop-member .member-index) (c .args .members .now) (c .loop-member-test .left));
+    }

@@ -13,28 +13,32 @@ index-nodes-0 c =
     search needs
 
 pub returns-then-self-eq0 : need.returns-then-self-eq0
-returns-then-self-eq0 c =
-    (c .if-self-eq0 .taken
-    , tree-leaf (c .args .self .height) (c .args .self .nodes .now) _ (c .if-self-eq0 .taken) (c .args .self .whole) (c .index-nodes-0 .is))
+returns-then-self-eq0 c = (
+  c .if-self-eq0 .taken,
+  tree-leaf (c .args .self .height) (c .args .self .nodes .now) _ (c .if-self-eq0 .taken) (c .args .self .whole) (c .index-nodes-0 .is),
+)
 
 pub index-nodes-nodes : need.index-nodes-nodes
 index-nodes-nodes c = omega (arith, first-below (c .args .self .height) (c .args .self .nodes .now) (c .args .self .whole))
 
 pub ghost-left : need.ghost-left
-ghost-left c =
-    (left-span (c .args .self .height) (c .args .self .nodes .now) (c .if-self-eq0 .left) (c .args .self .whole) (c .left-half .ensures .value)
-    , (omega arith, tt))
+ghost-left c = (
+  left-span (c .args .self .height) (c .args .self .nodes .now) (c .if-self-eq0 .left) (c .args .self .whole) (c .left-half .ensures .value),
+  (omega arith, tt),
+)
 
 pub ghost-right : need.ghost-right
-ghost-right c =
-    (right-span (c .args .self .height) (c .args .self .nodes .now) (c .if-self-eq0 .left) (c .args .self .whole) (c .right-half .ensures .value)
-    , (omega arith, tt))
+ghost-right c = (
+  right-span (c .args .self .height) (c .args .self .nodes .now) (c .if-self-eq0 .left) (c .args .self .whole) (c .right-half .ensures .value),
+  (omega arith, tt),
+)
 
 pub returns : need.returns
 returns c =
     record {
       tree =
-        tree-node (c .args .self .height) (c .args .self .nodes .now) (c .if-self-eq0 .left) (c .args .self .whole) (c .left-half .ensures .value)
-        (c .right-half .ensures .value) (c .index-nodes-nodes .is);
+          tree-node (c .args .self .height) (c .args .self .nodes .now) (c .if-self-eq0 .left) (c .args .self .whole) (c .left-half .ensures .value)
+          (c .right-half .ensures .value) (c .index-nodes-nodes .is);
       left = omega arith;
-      right = omega arith }
+      right = omega arith;
+    }
