@@ -8,7 +8,7 @@ ghost use Rattle.std.specs.Vec.{made};
 ghost use Rattle.theory.specs.Limits.{maxDepth};
 ghost use Rattle.theory.specs.Tree.{added, isBlank, leaf, occupied, unmergedAt};
 ghost use Rattle.tree_math.specs.Span.{span};
-ghost use Rattle.ratchet_tree.specs.Add.{Added, Grown};
+ghost use Rattle.ratchet_tree.specs.Add.{Added, Grown, Joined};
 ghost use Rattle.ratchet_tree.specs.Nodes.{leafOf, parentOf, treeOf};
 ghost use Rattle.ratchet_tree.specs.Trees.{theTree};
 use crate::copy::copy_nodes;
@@ -120,16 +120,23 @@ impl RatchetTree {
         })
     }
 
-    // Seats the newcomer at the leftmost blank leaf, unmerged at every keyed parent above it.
-    pub fn add(&mut self, heap: Global, member: MemberId, key: PublicKey) -> Result<(), TreeError>
-        ensures { λ r. ⌜ Added (member .0) key (now (self .entry)) (now (self .exit)) r ⌝ }
+    // The tree with the newcomer at the leftmost blank leaf, unmerged at every keyed parent above it.
+    pub fn with_member(&self, heap: Global, member: MemberId, key: PublicKey) -> Result<RatchetTree, TreeError>
+        ensures { λ r. ⌜ Joined (member .0) key (now (self .entry)) r ⌝ }
     {
         let mut next = self.with_room(heap)?;
         let depth = next.depth;
         let Ok(()) = add_in(&mut next.nodes, depth, member, key) else {
             return Err(TreeError::OutOfMemory);
         };
-        *self = next;
+        Ok(next)
+    }
+
+    // Seats the newcomer; where there is no room or no memory the tree stays as it was.
+    pub fn add(&mut self, heap: Global, member: MemberId, key: PublicKey) -> Result<(), TreeError>
+        ensures { λ r. ⌜ Added (member .0) key (now (self .entry)) (now (self .exit)) r ⌝ }
+    {
+        *self = self.with_member(heap, member, key)?;
         Ok(())
     }
 }

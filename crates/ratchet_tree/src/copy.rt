@@ -8,9 +8,11 @@ ghost use Rattle.std.specs.Vec.{made};
 ghost use Rattle.theory.specs.Tree.{blankLeaf, blankParent};
 ghost use Rattle.ratchet_tree.specs.Keys.{Appends};
 ghost use Rattle.ratchet_tree.specs.Nodes.{seen};
+ghost use Rattle.ratchet_tree.specs.Trees.{theTree};
 use crate::node::Leaf;
 use crate::node::Node;
 use crate::node::Parent;
+use crate::tree::RatchetTree;
 use std::alloc::AllocError;
 use std::alloc::Global;
 
@@ -68,4 +70,13 @@ pub fn double(nodes: &mut Vec<Node>) -> Result<(), AllocError>
         nodes.push(blank_node(index))?;
     }
     Ok(())
+}
+
+impl RatchetTree {
+    pub fn copy(&self, heap: Global) -> Result<RatchetTree, AllocError>
+        ensures { λ r. ⌜ made r (λ t. theTree t ≡ theTree (now (self .entry))) ⌝ }
+    {
+        let nodes = copy_nodes(heap, &self.nodes)?;
+        Ok(RatchetTree { nodes, depth: self.depth })
+    }
 }

@@ -2,7 +2,7 @@ use mathlib.Core.Path.{_≡_, refl, ap, _∙_}
 use Rattle.std.proofs.shelf.Lists.{refilled-is}
 use Rattle.theory.specs.Tree.{added}
 use Rattle.ratchet_tree.specs.Nodes.{treeOf}
-use Rattle.ratchet_tree.proofs.tree.RatchetTree.add.Needs as need
+use Rattle.ratchet_tree.proofs.tree.RatchetTree.with_member.Needs as need
 
 pub returns : need.returns
 returns c =
