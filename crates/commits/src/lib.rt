@@ -1,0 +1,10 @@
+// Commits: what is asked, who may ask it, the path that is laid, and the tree that comes of it.
+mod change;
+mod refusal;
+mod judge;
+
+pub use change::Change;
+pub use change::Commit;
+pub use change::Epoch;
+pub use refusal::Refusal;
+pub use judge::verdict;

@@ -1,5 +1,0 @@
-pub mod Cuts
-pub mod Decimals
-pub mod Distinct
-pub mod Outputs
-pub mod Words
