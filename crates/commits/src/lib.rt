@@ -4,7 +4,13 @@ mod refusal;
 mod judge;
 
 pub use change::Change;
+pub use change::ChangeDebug;
+pub use change::ChangeEq;
+pub use change::ChangePartialEq;
 pub use change::Commit;
+pub use change::CommitDebug;
+pub use change::CommitEq;
+pub use change::CommitPartialEq;
 pub use change::Epoch;
 pub use refusal::Refusal;
 pub use judge::verdict;
