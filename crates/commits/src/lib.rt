@@ -1,5 +1,6 @@
 // Commits: what is asked, who may ask it, the path that is laid, and the tree that comes of it.
 mod change;
+mod path;
 mod refusal;
 mod judge;
 
@@ -12,5 +13,7 @@ pub use change::CommitDebug;
 pub use change::CommitEq;
 pub use change::CommitPartialEq;
 pub use change::Epoch;
+pub use path::lay_path;
+pub use path::PathKeys;
 pub use refusal::Refusal;
 pub use judge::verdict;
