@@ -1,3 +1,4 @@
 pub mod Commits
 pub mod Path
 pub mod Refusals
+pub mod Targets

@@ -2,6 +2,7 @@
 mod change;
 mod path;
 mod refusal;
+mod targets;
 mod judge;
 
 pub use change::Change;
@@ -16,4 +17,6 @@ pub use change::Epoch;
 pub use path::lay_path;
 pub use path::PathKeys;
 pub use refusal::Refusal;
+pub use targets::path_targets;
+pub use targets::Target;
 pub use judge::verdict;
