@@ -1,10 +1,18 @@
 // Commits: what is asked, who may ask it, the path that is laid, and the tree that comes of it.
+mod carry;
 mod change;
 mod path;
 mod refusal;
 mod targets;
+mod count;
 mod judge;
 
+pub use carry::apply;
+pub use carry::commit_counts;
+pub use carry::ready;
+pub use carry::Applied;
+pub use carry::CommitError;
+pub use carry::CommitKeys;
 pub use change::Change;
 pub use change::ChangeDebug;
 pub use change::ChangeEq;
@@ -19,4 +27,6 @@ pub use path::PathKeys;
 pub use refusal::Refusal;
 pub use targets::path_targets;
 pub use targets::Target;
+pub use count::path_counts;
+pub use count::Counts;
 pub use judge::verdict;
