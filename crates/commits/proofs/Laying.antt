@@ -95,9 +95,9 @@ module _ (h : ℕ) (ns : List Node) (above : h ≡ 0 → ⊥) (len : length ns �
         py ∙ ap (λ z. cond b (keyed z []) blankParent) (ky ∙ ap keys e) ∙ parent-laid keys j b other q
 
     pub lay-left : (ys : List Node) → length ys ≡ length (take (length ns / 2 - 0) ns) →
-      treeOf (h - 1) ys ≡ laid m own keys (treeOf (h - 1) (take (length ns / 2 - 0) ns)) .tree → i ≡ laid m own keys (treeOf (h - 1) (take (length ns / 2 - 0) ns)) .levels →
-      true ≡ seated m (treeOf (h - 1) (take (span (h - 1)) ns)) → b ≡ not (isNone (resolution (treeOf (h - 1) (drop (span (h - 1) + 1) ns)))) →
-      (treeOf h (set (leftPut ns ns ys) (length ns / 2) y) ≡ laid m own keys (treeOf h ns) .tree) × (i + boolByte b ≡ laid m own keys (treeOf h ns) .levels)
+        treeOf (h - 1) ys ≡ laid m own keys (treeOf (h - 1) (take (length ns / 2 - 0) ns)) .tree → i ≡ laid m own keys (treeOf (h - 1) (take (length ns / 2 - 0) ns)) .levels →
+        true ≡ seated m (treeOf (h - 1) (take (span (h - 1)) ns)) → b ≡ not (isNone (resolution (treeOf (h - 1) (drop (span (h - 1) + 1) ns)))) →
+        (treeOf h (set (leftPut ns ns ys) (length ns / 2) y) ≡ laid m own keys (treeOf h ns) .tree) × (i + boolByte b ≡ laid m own keys (treeOf h ns) .levels)
     unfolding L R P
     lay-left ys e t v s q =
         let start = cut-start h ns above len in
@@ -106,15 +106,16 @@ module _ (h : ℕ) (ns : List Node) (above : h ≡ 0 → ⊥) (len : length ns �
         let i-is : i ≡ laid m own keys L .levels = v ∙ ap (λ u. laid m own keys (treeOf (h - 1) u) .levels) is in
         let t-is : treeOf (h - 1) ys ≡ laid m own keys L .tree = t ∙ ap (λ u. laid m own keys (treeOf (h - 1) u) .tree) is in
         let all : laid m own keys (treeOf h ns) ≡ climbed keys (laid m own keys L) (resolution R) (λ z u. node z u R) =
-            ap (laid m own keys) (start-tree h ns above len) ∙ laid-left m own keys P L R (sym s) in
-        (cut-tree-at h above done ∙ ap₂ (λ z u. node z u R) (parent-is (resolution R) (laid m own keys L .levels) i-is q) t-is ∙ ap (λ (x : Laid PublicKey). x .tree) (sym all)
-        , ap (λ (j : ℕ). j + boolByte b) i-is ∙ level-after (laid m own keys L .levels) b (resolution R) q ∙ ap (λ (x : Laid PublicKey). x .levels) (sym all))
+        ap (laid m own keys) (start-tree h ns above len) ∙ laid-left m own keys P L R (sym s) in (
+          cut-tree-at h above done ∙ ap₂ (λ z u. node z u R) (parent-is (resolution R) (laid m own keys L .levels) i-is q) t-is ∙ ap (λ (x : Laid PublicKey). x .tree) (sym all),
+          ap (λ (j : ℕ). j + boolByte b) i-is ∙ level-after (laid m own keys L .levels) b (resolution R) q ∙ ap (λ (x : Laid PublicKey). x .levels) (sym all),
+        )
 
     pub lay-right : (zs : List Node) → length zs ≡ length (behind ns ns) →
-      treeOf (h - 1) zs ≡ laid m own keys (treeOf (h - 1) (behind ns ns)) .tree → i ≡ laid m own keys (treeOf (h - 1) (behind ns ns)) .levels →
-      false ≡ seated m (treeOf (h - 1) (take (span (h - 1)) ns)) → true ≡ seated m (treeOf (h - 1) (drop (span (h - 1) + 1) ns)) →
-      b ≡ not (isNone (resolution (treeOf (h - 1) (take (span (h - 1)) ns)))) →
-      (treeOf h (set (rightPut ns ns zs) (length ns / 2) y) ≡ laid m own keys (treeOf h ns) .tree) × (i + boolByte b ≡ laid m own keys (treeOf h ns) .levels)
+        treeOf (h - 1) zs ≡ laid m own keys (treeOf (h - 1) (behind ns ns)) .tree → i ≡ laid m own keys (treeOf (h - 1) (behind ns ns)) .levels →
+        false ≡ seated m (treeOf (h - 1) (take (span (h - 1)) ns)) → true ≡ seated m (treeOf (h - 1) (drop (span (h - 1) + 1) ns)) →
+        b ≡ not (isNone (resolution (treeOf (h - 1) (take (span (h - 1)) ns)))) →
+        (treeOf h (set (rightPut ns ns zs) (length ns / 2) y) ≡ laid m own keys (treeOf h ns) .tree) × (i + boolByte b ≡ laid m own keys (treeOf h ns) .levels)
     unfolding L R P
     lay-right zs e t v s s2 q =
         let start = cut-start h ns above len in
@@ -123,14 +124,15 @@ module _ (h : ℕ) (ns : List Node) (above : h ≡ 0 → ⊥) (len : length ns �
         let i-is : i ≡ laid m own keys R .levels = v ∙ ap (λ u. laid m own keys (treeOf (h - 1) u) .levels) is in
         let t-is : treeOf (h - 1) zs ≡ laid m own keys R .tree = t ∙ ap (λ u. laid m own keys (treeOf (h - 1) u) .tree) is in
         let all : laid m own keys (treeOf h ns) ≡ climbed keys (laid m own keys R) (resolution L) (λ z u. node z L u) =
-            ap (laid m own keys) (start-tree h ns above len) ∙ laid-right m own keys P L R (sym s) (sym s2) in
-        (cut-tree-at h above done ∙ ap₂ (λ z u. node z L u) (parent-is (resolution L) (laid m own keys R .levels) i-is q) t-is ∙ ap (λ (x : Laid PublicKey). x .tree) (sym all)
-        , ap (λ (j : ℕ). j + boolByte b) i-is ∙ level-after (laid m own keys R .levels) b (resolution L) q ∙ ap (λ (x : Laid PublicKey). x .levels) (sym all))
+        ap (laid m own keys) (start-tree h ns above len) ∙ laid-right m own keys P L R (sym s) (sym s2) in (
+          cut-tree-at h above done ∙ ap₂ (λ z u. node z L u) (parent-is (resolution L) (laid m own keys R .levels) i-is q) t-is ∙ ap (λ (x : Laid PublicKey). x .tree) (sym all),
+          ap (λ (j : ℕ). j + boolByte b) i-is ∙ level-after (laid m own keys R .levels) b (resolution L) q ∙ ap (λ (x : Laid PublicKey). x .levels) (sym all),
+        )
 
   pub lay-nowhere : false ≡ seated m (treeOf (h - 1) (take (span (h - 1)) ns)) → false ≡ seated m (treeOf (h - 1) (drop (span (h - 1) + 1) ns)) →
-    (treeOf h ns ≡ laid m own keys (treeOf h ns) .tree) × (0 ≡ laid m own keys (treeOf h ns) .levels)
+      (treeOf h ns ≡ laid m own keys (treeOf h ns) .tree) × (0 ≡ laid m own keys (treeOf h ns) .levels)
   unfolding L R P
   lay-nowhere s s2 =
       let all : laid m own keys (treeOf h ns) ≡ record { tree = node P L R; levels = 0; targets = [] } =
-          ap (laid m own keys) (start-tree h ns above len) ∙ laid-nowhere m own keys P L R (sym s) (sym s2) in
+      ap (laid m own keys) (start-tree h ns above len) ∙ laid-nowhere m own keys P L R (sym s) (sym s2) in
       (start-tree h ns above len ∙ ap (λ (x : Laid PublicKey). x .tree) (sym all), ap (λ (x : Laid PublicKey). x .levels) (sym all))

@@ -21,5 +21,5 @@ none-append [] ys = refl
 none-append (x ∷ xs) ys = refl
 
 pub reached-blank : {K : Type 0} (t : Tree K) (p : Parent K) (l r : Tree K) → t ≡ node p l r → p ≡ blankParent →
-  (not (isNone (resolution l)) || not (isNone (resolution r))) ≡ not (isNone (resolution t))
+    (not (isNone (resolution l)) || not (isNone (resolution r))) ≡ not (isNone (resolution t))
 reached-blank t p l r e q = none-append (resolution l) (resolution r) ∙ ap (λ s. not (isNone s)) (resolution-blank t p l r e q)

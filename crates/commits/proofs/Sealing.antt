@@ -23,8 +23,8 @@ use Rattle.commits.proofs.Laying.{laid-left, laid-right, laid-nowhere, levels-
 
 -- one target more
 pub sealed-more : (before : List _) (out out′ : List Target) (keys : List PublicKey) (x : Target) (i n : ℕ) (d : PublicKey) → out′ ≡ out ++ x ∷ [] →
-  map targetOf out ≡ before ++ sealedTo n (take i keys) → targetOf x ≡ record { key = getD keys i d; level = n } → i < length keys →
-  map targetOf out′ ≡ before ++ sealedTo n (take (i + 1) keys)
+    map targetOf out ≡ before ++ sealedTo n (take i keys) → targetOf x ≡ record { key = getD keys i d; level = n } → i < length keys →
+    map targetOf out′ ≡ before ++ sealedTo n (take (i + 1) keys)
 sealed-more before out out′ keys x i n d e m s h =
     ap (map targetOf) e ∙ map-append targetOf out (x ∷ []) ∙ ap₂ (λ a b. a ++ b ∷ []) m s
     ∙ append-assoc before (sealedTo n (take i keys)) (record { key = getD keys i d; level = n } ∷ [])
@@ -37,12 +37,13 @@ module _ (m : ℕ) (t half other : Tree PublicKey) (put : Parent PublicKey → T
   climb a b c n k below here =
       record {
         level = λ own keys.
-          here .level ∙ ap (λ (i : ℕ). levelAfter i (resolution other)) (below .level own keys) ∙ ap (λ (x : Laid PublicKey). x .levels) (sym (is own keys));
+            here .level ∙ ap (λ (i : ℕ). levelAfter i (resolution other)) (below .level own keys) ∙ ap (λ (x : Laid PublicKey). x .levels) (sym (is own keys));
         targets = λ own keys.
-          here .targets
-          ∙ ap₂ (λ l (i : ℕ). l ++ sealedTo i (resolution other)) (below .targets own keys) (below .level own keys)
-          ∙ append-assoc (map targetOf a) (laid m own keys half .targets) (sealedTo (laid m own keys half .levels) (resolution other))
-          ∙ ap (λ (x : Laid PublicKey). map targetOf a ++ x .targets) (sym (is own keys)) }
+            here .targets
+            ∙ ap₂ (λ l (i : ℕ). l ++ sealedTo i (resolution other)) (below .targets own keys) (below .level own keys)
+            ∙ append-assoc (map targetOf a) (laid m own keys half .targets) (sealedTo (laid m own keys half .levels) (resolution other))
+            ∙ ap (λ (x : Laid PublicKey). map targetOf a ++ x .targets) (sym (is own keys));
+      }
 
   pub climbs : (a b c : List Target) (n : ℕ) (r : Result ℕ AllocError) → SealedPath m half a b n → SealsOther n other b c r → SealsPath m t a c r
   climbs a b c n (Ok k) below here = climb a b c n k below here
@@ -58,17 +59,19 @@ module _ (m : ℕ) (t l r : Tree PublicKey) (p : Parent PublicKey) (e : t ≡ no
   pub sealed-nowhere : false ≡ seated m l → false ≡ seated m r → (a : List Target) → SealedPath m t a a 0
   sealed-nowhere s s2 a =
       let is : (own : PublicKey) (keys : ℕ → PublicKey) → laid m own keys t ≡ record { tree = node p l r; levels = 0; targets = [] } =
-          λ own keys. ap (laid m own keys) e ∙ laid-nowhere m own keys p l r (sym s) (sym s2) in
+      λ own keys. ap (laid m own keys) e ∙ laid-nowhere m own keys p l r (sym s) (sym s2) in
       record {
         level = λ own keys. ap (λ (x : Laid PublicKey). x .levels) (sym (is own keys));
-        targets = λ own keys. sym (append-nil (map targetOf a)) ∙ ap (λ (x : Laid PublicKey). map targetOf a ++ x .targets) (sym (is own keys)) }
+        targets = λ own keys. sym (append-nil (map targetOf a)) ∙ ap (λ (x : Laid PublicKey). map targetOf a ++ x .targets) (sym (is own keys));
+      }
 
 pub sealed-leaf : (m : ℕ) (t : Tree PublicKey) (x : Leaf PublicKey) → t ≡ leaf x → (a : List Target) → SealedPath m t a a 0
 unfolding laid
 sealed-leaf m t x e a =
     record {
       level = λ own keys. ap (λ u. laid m own keys u .levels) (sym e);
-      targets = λ own keys. sym (append-nil (map targetOf a)) ∙ ap (λ u. map targetOf a ++ laid m own keys u .targets) (sym e) }
+      targets = λ own keys. sym (append-nil (map targetOf a)) ∙ ap (λ u. map targetOf a ++ laid m own keys u .targets) (sym e);
+    }
 
 -- a path in a part has few levels
 pub few-levels : (m : ℕ) (p : Part) (a b : List Target) (n : ℕ) → SealedPath m (partTree p) a b n → n ≤ maxDepth

@@ -6,14 +6,14 @@ ghost use Rattle.commits.specs.Commits.{changeOf, commitOf};
 use crate::change::Change;
 use crate::change::Commit;
 use crate::change::Epoch;
-use crate::count::path_counts;
 use crate::count::Counts;
+use crate::count::path_counts;
 use crate::judge::verdict;
-use crate::path::lay_path;
 use crate::path::PathKeys;
+use crate::path::lay_path;
 use crate::refusal::Refusal;
-use crate::targets::path_targets;
 use crate::targets::Target;
+use crate::targets::path_targets;
 use ratchet_tree::PublicKey;
 use ratchet_tree::RatchetTree;
 use ratchet_tree::TreeError;
@@ -41,7 +41,12 @@ pub enum CommitError {
 }
 
 // The tree with what is asked, before the path.
-fn asked(heap: Global, tree: &RatchetTree, change: Change, newcomer: PublicKey) -> Result<RatchetTree, TreeError>
+fn asked(
+    heap: Global,
+    tree: &RatchetTree,
+    change: Change,
+    newcomer: PublicKey,
+) -> Result<RatchetTree, TreeError>
     ensures { λ r. ⌜ Asked (changeOf change) newcomer (theTree (now (tree .entry))) r ⌝ }
 {
     if let Change::Add(member) = change {
@@ -57,7 +62,13 @@ fn asked(heap: Global, tree: &RatchetTree, change: Change, newcomer: PublicKey) 
 }
 
 // The tree that the path is laid on, or the refusal.
-pub fn ready(heap: Global, tree: &RatchetTree, epoch: Epoch, commit: Commit, newcomer: PublicKey) -> Result<RatchetTree, CommitError>
+pub fn ready(
+    heap: Global,
+    tree: &RatchetTree,
+    epoch: Epoch,
+    commit: Commit,
+    newcomer: PublicKey,
+) -> Result<RatchetTree, CommitError>
     ensures tree { λ r. ⌜ Ready (epoch .0) (commitOf commit) newcomer (theTree (now (tree .entry))) r ⌝ }
 {
     if let Some(refusal) = verdict(tree, epoch, commit) {
@@ -82,7 +93,13 @@ fn welcome_count(change: Change) -> usize
     }
 }
 
-pub fn apply(heap: Global, tree: &mut RatchetTree, epoch: Epoch, commit: Commit, keys: CommitKeys) -> Result<Applied, CommitError>
+pub fn apply(
+    heap: Global,
+    tree: &mut RatchetTree,
+    epoch: Epoch,
+    commit: Commit,
+    keys: CommitKeys,
+) -> Result<Applied, CommitError>
     ensures tree { λ r. ⌜ Applies (epoch .0) (commitOf commit) (keys .entry) (now (tree .entry)) (now (tree .exit)) r ⌝ }
 {
     let mut next = ready(heap, tree, epoch, commit, keys.newcomer)?;
@@ -92,15 +109,28 @@ pub fn apply(heap: Global, tree: &mut RatchetTree, epoch: Epoch, commit: Commit,
     let node_keys = lay_path(heap, &mut next, commit.committer, keys.path);
     let boxes = targets.len() + welcome_count(commit.change);
     *tree = next;
-    Ok(Applied { node_keys, boxes, targets })
+    Ok(Applied {
+        node_keys,
+        boxes,
+        targets,
+    })
 }
 
 // How many node keys and boxes the message of a commit has to have, without carrying it out.
-pub fn commit_counts(heap: Global, tree: &RatchetTree, epoch: Epoch, commit: Commit, newcomer: PublicKey) -> Result<Counts, CommitError>
+pub fn commit_counts(
+    heap: Global,
+    tree: &RatchetTree,
+    epoch: Epoch,
+    commit: Commit,
+    newcomer: PublicKey,
+) -> Result<Counts, CommitError>
     ensures value { λ r. ⌜ Counting (epoch .0) (commitOf commit) newcomer (theTree (now (tree .entry))) r ⌝ }
 {
     let next = ready(heap, tree, epoch, commit, newcomer)?;
     let path = path_counts(next.as_part(), commit.committer);
     let boxes = path.boxes.saturating_add(welcome_count(commit.change));
-    Ok(Counts { node_keys: path.node_keys, boxes })
+    Ok(Counts {
+        node_keys: path.node_keys,
+        boxes,
+    })
 }

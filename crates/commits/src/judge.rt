@@ -13,7 +13,9 @@ use ratchet_tree::MemberId;
 use ratchet_tree::RatchetTree;
 
 const MAX_MEMBERS: usize = 1024;
+
 const NOBODY: u16 = 65535;
+
 const LAST_EPOCH: u32 = 4294967295;
 
 fn removal_verdict(tree: &RatchetTree, committer: MemberId, member: MemberId) -> Option<Refusal>

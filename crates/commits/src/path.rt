@@ -59,19 +59,36 @@ fn renew_leaf(node: &mut Node, member: MemberId, key: PublicKey)
 fn key_at(keys: PathKeys, level: usize) -> PublicKey
     ensures { λ r. ⌜ r ≡ keyFrom (keys .entry) level ⌝ }
 {
-    if level < keys.nodes.len() { keys.nodes[level] } else { keys.leaf }
+    if level < keys.nodes.len() {
+        keys.nodes[level]
+    } else {
+        keys.leaf
+    }
 }
 
 // The parent above a level: keyed where there is somebody on its other side to seal to, else blank.
 fn lay_parent(heap: Global, node: &mut Node, key: PublicKey, reached: bool)
     ensures { λ _. ⌜ parentOf (now (node .exit)) ≡ cond reached (keyed key []) blankParent ⌝ }
 {
-    let parent = if reached { Parent::Keyed { key, unmerged: Vec::new(heap) } } else { Parent::Blank };
+    let parent = if reached {
+        Parent::Keyed {
+            key,
+            unmerged: Vec::new(heap),
+        }
+    } else {
+        Parent::Blank
+    };
     *node = Node::Parent(parent);
 }
 
 // Lays the path in a part; answers how many node keys that took.
-fn lay_in(heap: Global, nodes: &mut [Node], height: usize, member: MemberId, keys: PathKeys) -> usize
+fn lay_in(
+    heap: Global,
+    nodes: &mut [Node],
+    height: usize,
+    member: MemberId,
+    keys: PathKeys,
+) -> usize
     requires { ⌜ length (now nodes) ≡ span height ⌝ ∗ ⌜ height ≤ maxDepth ⌝ }
     ensures tree { λ _. ⌜ treeOf height (now (nodes .exit)) ≡ laid (member .0) (keys .entry .leaf) (keyFrom (keys .entry)) (treeOf height (now (nodes .entry))) .tree ⌝ }
     ensures value { λ r. ⌜ r ≡ laid (member .0) (keys .entry .leaf) (keyFrom (keys .entry)) (treeOf height (now (nodes .entry))) .levels ⌝ }
@@ -81,8 +98,14 @@ fn lay_in(heap: Global, nodes: &mut [Node], height: usize, member: MemberId, key
         return 0;
     }
     let middle = nodes.len() / 2;
-    let left = Part { nodes: left_half(nodes), height: height - 1 };
-    let right = Part { nodes: right_half(nodes), height: height - 1 };
+    let left = Part {
+        nodes: left_half(nodes),
+        height: height - 1,
+    };
+    let right = Part {
+        nodes: right_half(nodes),
+        height: height - 1,
+    };
     if left.is_seated(member) {
         let reached = is_reached(right);
         let level = lay_in(heap, &mut nodes[0..middle], height - 1, member, keys);

@@ -33,17 +33,31 @@ fn push_sealed(keys: &[PublicKey], level: usize, out: &mut Vec<Target>) -> Resul
 }
 
 // Seals to the other side of the path; answers the level above.
-fn seal_to(heap: Global, other: Part, level: usize, out: &mut Vec<Target>) -> Result<usize, AllocError>
+fn seal_to(
+    heap: Global,
+    other: Part,
+    level: usize,
+    out: &mut Vec<Target>,
+) -> Result<usize, AllocError>
     requires { ⌜ level ≤ maxDepth ⌝ }
     ensures { λ r. ⌜ SealsOther level (partTree (other .entry)) (vec-items (now (out .entry))) (vec-items (now (out .exit))) r ⌝ }
 {
     let keys = other.resolution(heap)?;
     push_sealed(&keys, level, out)?;
-    if keys.is_empty() { Ok(level) } else { Ok(level + 1) }
+    if keys.is_empty() {
+        Ok(level)
+    } else {
+        Ok(level + 1)
+    }
 }
 
 // Seals along the path in a part; answers how many levels it has.
-fn push_targets(heap: Global, part: Part, member: MemberId, out: &mut Vec<Target>) -> Result<usize, AllocError>
+fn push_targets(
+    heap: Global,
+    part: Part,
+    member: MemberId,
+    out: &mut Vec<Target>,
+) -> Result<usize, AllocError>
     ensures { λ r. ⌜ SealsPath (member .0) (partTree (part .entry)) (vec-items (now (out .entry))) (vec-items (now (out .exit))) r ⌝ }
 {
     match part.split() {
@@ -63,7 +77,11 @@ fn push_targets(heap: Global, part: Part, member: MemberId, out: &mut Vec<Target
 }
 
 // The targets of the committer's path in a part, from below.
-pub fn path_targets(heap: Global, part: Part, committer: MemberId) -> Result<Vec<Target>, AllocError>
+pub fn path_targets(
+    heap: Global,
+    part: Part,
+    committer: MemberId,
+) -> Result<Vec<Target>, AllocError>
     ensures value { λ r. ⌜ made r (λ v. Targets (committer .0) (partTree (part .entry)) (vec-items v)) ⌝ }
 {
     let mut targets = Vec::new(heap);

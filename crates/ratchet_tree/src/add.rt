@@ -121,7 +121,12 @@ impl RatchetTree {
     }
 
     // The tree with the newcomer at the leftmost blank leaf, unmerged at every keyed parent above it.
-    pub fn with_member(&self, heap: Global, member: MemberId, key: PublicKey) -> Result<RatchetTree, TreeError>
+    pub fn with_member(
+        &self,
+        heap: Global,
+        member: MemberId,
+        key: PublicKey,
+    ) -> Result<RatchetTree, TreeError>
         ensures { λ r. ⌜ Joined (member .0) key (now (self .entry)) r ⌝ }
     {
         let mut next = self.with_room(heap)?;

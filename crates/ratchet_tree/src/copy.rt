@@ -77,6 +77,9 @@ impl RatchetTree {
         ensures { λ r. ⌜ made r (λ t. theTree t ≡ theTree (now (self .entry))) ⌝ }
     {
         let nodes = copy_nodes(heap, &self.nodes)?;
-        Ok(RatchetTree { nodes, depth: self.depth })
+        Ok(RatchetTree {
+            nodes,
+            depth: self.depth,
+        })
     }
 }

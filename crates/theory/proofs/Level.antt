@@ -98,7 +98,7 @@ grown-bounded t room b =
       | inr h ↦ rw (grown-roomy t h) b
     ]
 
-not-refused : (b : Bool) (n : ℕ) (o : Option ℕ) → T (not (isSome (firstOf b n o))) → T (not b) × T (not (isSome o))
+pub not-refused : (b : Bool) (n : ℕ) (o : Option ℕ) → T (not (isSome (firstOf b n o))) → T (not b) × T (not (isSome o))
 not-refused true n o h = elim h [ ]
 not-refused false n o h = (tt, h)
 

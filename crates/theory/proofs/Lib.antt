@@ -8,3 +8,16 @@ pub mod Runs
 pub mod Resolution
 pub mod Level
 pub mod Position
+pub mod Natural
+pub mod Wellformed
+pub mod Follows
+pub mod Counting
+pub mod Own
+pub mod Keys
+pub mod History
+pub mod Sole
+pub mod Holding
+pub mod Secrecy
+pub mod Healing
+pub mod Reaching
+pub mod Known

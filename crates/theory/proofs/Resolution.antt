@@ -11,7 +11,7 @@ use Rattle.std.specs.declared.option.Option.the-variants.{Some}
 use Rattle.theory.specs.Tree.{Tree, leaf, node, Leaf, blankLeaf, occupied, Parent, blankParent, keyed, seated, full, resolution, blankTree, grown, added, removed}
 use Rattle.theory.specs.Group.{Change, renew, remove, add, readied}
 use Rattle.theory.specs.Places.{Place, hasKey, Below, whole, inLeft, inRight}
-use Rattle.theory.specs.Laws.{Deserted, ResolutionReaches}
+use Rattle.theory.specs.Laws.{Deserted, ResolutionEmpty}
 use Rattle.theory.proofs.Tests.{by-cond, decided, or-cases, or-left, or-right}
 use Rattle.theory.proofs.Addition.{Adding, adding, added-full}
 use Rattle.theory.proofs.Addition as adds
@@ -111,8 +111,8 @@ readied-peopled renew fresh t p = p
 readied-peopled (remove m) fresh t p = removed-peopled m p
 readied-peopled (add m) fresh t p = added-peopled m fresh (grown t) (grown-peopled t p)
 
-pub resolution-reaches : ResolutionReaches
-resolution-reaches f commits n t b = (
+pub resolution-empty : ResolutionEmpty
+resolution-empty f commits n t b = (
   empty-deserted t,
   deserted-empty
       (peopled-below b

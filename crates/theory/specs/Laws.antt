@@ -1,6 +1,6 @@
 -- The laws of trees and of runs, in the words of their subject: who sits where, and what becomes of each leaf and parent.
 -- `Removal`, `Addition`, `UnmergedSince`, `Growth`: what one change does, by the records `Without`, `Seating`, `Unmerged`, `Doubled`;
--- `ResolutionReaches`, `LevelKept`: what holds of every tree of a run; `PositionIs`, by `Positioned`: where a position lies.
+-- `ResolutionEmpty`, `LevelKept`: what holds of every tree of a run; `PositionIs`, by `Positioned`: where a position lies.
 -- Assumes nothing.
 use mathlib.Core.Path.{_≡_}
 use mathlib.Core.Bool.{false, not, _||_}
@@ -84,8 +84,8 @@ abbrev pub Deserted : {K : Type 0} → Tree K → Type 0
 Deserted t = (w : ℕ) → T (seated w t) → ⊥
 
 -- in every part of every tree of a run, the resolution is empty exactly if nobody is seated there
-abbrev pub ResolutionReaches : Type 0
-ResolutionReaches =
+abbrev pub ResolutionEmpty : Type 0
+ResolutionEmpty =
     (f : ℕ) (commits : ℕ → Commit) (n : ℕ) (t : Tree Secret) →
     Below t (group f commits n .tree) → (resolution t ≡ []) ↔ Deserted t
 

@@ -7,3 +7,8 @@ pub mod Group
 pub mod Worked
 pub mod Places
 pub mod Laws
+pub mod Wellformed
+pub mod Natural
+pub mod Follow
+pub mod Promise
+pub mod Known

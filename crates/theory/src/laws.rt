@@ -1,5 +1,5 @@
 // The laws of trees and of runs. Each function here has one as its contract.
-ghost use Rattle.theory.specs.Laws.{Removal, Addition, UnmergedSince, Growth, ResolutionReaches, LevelKept, PositionIs};
+ghost use Rattle.theory.specs.Laws.{Removal, Addition, UnmergedSince, Growth, ResolutionEmpty, LevelKept, PositionIs};
 
 // A removal empties the member's leaf and every parent above it, and touches nothing else.
 pub fn removal_holds() -> u8
@@ -30,8 +30,8 @@ pub fn growth_holds() -> u8
 }
 
 // In every part of every tree of a run, the resolution is empty exactly if nobody is seated there.
-pub fn resolution_reaches_holds() -> u8
-    ensures { λ _. ⌜ ResolutionReaches ⌝ }
+pub fn resolution_empty_holds() -> u8
+    ensures { λ _. ⌜ ResolutionEmpty ⌝ }
 {
     0
 }

@@ -17,18 +17,20 @@ pub returns : need.returns
 returns c =
     let is = c .in-Continue-next .ensures tt .tree in
     let targets : map targetOf (vec-items (c .in-Ok .targets)) ≡ laidBy (commitOf (c .args .commit)) (c .args .keys .newcomer) (c .args .keys .path .leaf) (keyFrom (c .args .keys .path)) (theTree (c .args .tree .now)) .targets =
-        c .in-Ok .ensures tt .value (c .args .keys .path .leaf) (keyFrom (c .args .keys .path))
-        ∙ ap (λ t. laid (c .args .commit .committer .0) (c .args .keys .path .leaf) (keyFrom (c .args .keys .path)) t .targets) (c .as-part .ensures ∙ is .1) in
+    c .in-Ok .ensures tt .value (c .args .keys .path .leaf) (keyFrom (c .args .keys .path))
+    ∙ ap (λ t. laid (c .args .commit .committer .0) (c .args .keys .path .leaf) (keyFrom (c .args .keys .path)) t .targets) (c .as-part .ensures ∙ is .1) in
     let many : length (vec-items (c .in-Ok .targets)) ≡ _ = sym (length-map (vec-items (c .in-Ok .targets)) targetOf) ∙ ap length targets in
     record {
       tree =
-        record {
-          allowed = is .0;
-          tree =
-            c .lay-path-node-keys .ensures .tree
-            ∙ ap (λ t. laid (c .args .commit .committer .0) (c .args .keys .path .leaf) (keyFrom (c .args .keys .path)) t .tree) (is .1);
-          keys =
-            c .lay-path-node-keys .ensures .value
-            ∙ ap (λ t. laid (c .args .commit .committer .0) (c .args .keys .path .leaf) (keyFrom (c .args .keys .path)) t .levels) (is .1);
-          targets = targets;
-          boxes = omega (arith, c .len .ensures, c .in-Ok .targets .ok .0, c .welcome-count .ensures, many) } }
+          record {
+            allowed = is .0;
+            tree =
+                c .lay-path-node-keys .ensures .tree
+                ∙ ap (λ t. laid (c .args .commit .committer .0) (c .args .keys .path .leaf) (keyFrom (c .args .keys .path)) t .tree) (is .1);
+            keys =
+                c .lay-path-node-keys .ensures .value
+                ∙ ap (λ t. laid (c .args .commit .committer .0) (c .args .keys .path .leaf) (keyFrom (c .args .keys .path)) t .levels) (is .1);
+            targets = targets;
+            boxes = omega (arith, c .len .ensures, c .in-Ok .targets .ok .0, c .welcome-count .ensures, many);
+          };
+    }

@@ -11,5 +11,5 @@ use Rattle.commits.proofs.carry.ready.Needs as need
 pub returns-in-NoRoom : need.returns-in-NoRoom
 returns-in-NoRoom c =
     absurd
-    (room (c .args .tree .now .depth) (vec-items (c .args .tree .now .nodes)) (c .args .epoch .0) (commitOf (c .args .commit)) (sym (c .in-rest .ensures tt .number)) 
+    (room (c .args .tree .now .depth) (vec-items (c .args .tree .now .nodes)) (c .args .epoch .0) (commitOf (c .args .commit)) (sym (c .in-rest .ensures tt .number))
     (subst (λ (x : TreeError). Crowded (changeOf (c .args .commit .change)) (theTree (c .args .tree .now)) x) (c .in-NoRoom .is) (c .in-Err .ensures tt)))

@@ -9,9 +9,10 @@ pub returns : need.returns
 returns c =
     record {
       tree =
-        ap (treeOf (c .args .tree .now .depth)) (refilled-is (c .args .tree .now .nodes) (c .lay-in .last .nodes) (c .lay-in .kept .nodes ∙ c .deref-mut .ensures .len))
-        ∙ c .lay-in .ensures .tree
-        ∙ ap (λ l. laid (c .args .committer .0) (c .args .keys .leaf) (keyFrom (c .args .keys)) (treeOf (c .args .tree .now .depth) l) .tree) (c .deref-mut .ensures .value);
+          ap (treeOf (c .args .tree .now .depth)) (refilled-is (c .args .tree .now .nodes) (c .lay-in .last .nodes) (c .lay-in .kept .nodes ∙ c .deref-mut .ensures .len))
+          ∙ c .lay-in .ensures .tree
+          ∙ ap (λ l. laid (c .args .committer .0) (c .args .keys .leaf) (keyFrom (c .args .keys)) (treeOf (c .args .tree .now .depth) l) .tree) (c .deref-mut .ensures .value);
       value =
-        c .lay-in .ensures .value
-        ∙ ap (λ l. laid (c .args .committer .0) (c .args .keys .leaf) (keyFrom (c .args .keys)) (treeOf (c .args .tree .now .depth) l) .levels) (c .deref-mut .ensures .value) }
+          c .lay-in .ensures .value
+          ∙ ap (λ l. laid (c .args .committer .0) (c .args .keys .leaf) (keyFrom (c .args .keys)) (treeOf (c .args .tree .now .depth) l) .levels) (c .deref-mut .ensures .value);
+    }

@@ -15,4 +15,5 @@ loop-key-again c =
 pub returns : need.returns
 returns c =
     record {
-      items = λ _. c .loop-key .inv ∙ ap (λ l. map targetOf (vec-items (c .args .out .now)) ++ sealedTo (c .args .level) l) (take-all (c .loop-key .key-index) (c .args .keys .now) (c .loop-key-test .left)) }
+      items = λ _. c .loop-key .inv ∙ ap (λ l. map targetOf (vec-items (c .args .out .now)) ++ sealedTo (c .args .level) l) (take-all (c .loop-key .key-index) (c .args .keys .now) (c .loop-key-test .left));
+    }
