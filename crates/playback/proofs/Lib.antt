@@ -1,0 +1,4 @@
+pub mod Distinct
+pub mod Nodes
+pub mod Writing
+pub mod Steps

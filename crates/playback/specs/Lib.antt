@@ -1,0 +1,4 @@
+pub mod Laws
+pub mod Report
+pub mod Play
+pub mod Steps
