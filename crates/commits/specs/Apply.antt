@@ -42,10 +42,10 @@ abbrev pub Asked : Change → PublicKey → Tree PublicKey → Result RatchetTre
 Asked c fresh t (Ok u) = theTree u ≡ readied c fresh t
 Asked c fresh t (Err e) = Crowded c t e
 
--- why a commit isn't carried out: it is refused by that number, or there is no memory
+-- why a commit isn't carried out: it is refused by that number; or it is allowed, and there is no memory
 abbrev pub Stopped : ℕ → Commit → Tree PublicKey → CommitError → Type 0
 Stopped e c t (commit-error.Refused x) = refusal e c t ≡ Some (numberOf x)
-Stopped e c t commit-error.OutOfMemory = Unit {0}
+Stopped e c t commit-error.OutOfMemory = refusal e c t ≡ None
 
 abbrev pub Ready : ℕ → Commit → PublicKey → Tree PublicKey → Result RatchetTree CommitError → Type 0
 Ready e c fresh t (Ok u) = (refusal e c t ≡ None) × (theTree u ≡ readied (c .change) fresh t)

@@ -18,13 +18,14 @@ use Rattle.playback.specs.Steps.{Answer, Played}
 
 -- the state and the bytes of a commit that was carried out, as the code has them
 pub carried-as : (s : State) (line : List ℕ) (c : Commit) (t : Tree PublicKey) (e : ℕ) (before done bytes : List ℕ) → InRange c → line ≡ lineBytes c →
-  refusal (s .epoch) (commitOf c) (s .tree) ≡ None → t ≡ after c s .tree → e ≡ suc (s .epoch) → done ≡ before ++ bytes → bytes ≡ reported c s →
-  Answer s line (record { tree = t; epoch = e }) before done
+    refusal (s .epoch) (commitOf c) (s .tree) ≡ None → t ≡ after c s .tree → e ≡ suc (s .epoch) → done ≡ before ++ bytes → bytes ≡ reported c s →
+    Answer s line (record { tree = t; epoch = e }) before done
 carried-as s line c t e before done bytes i l a p q w b =
     record {
       bytes = reported c s;
       appended = w ∙ ap (λ x. before ++ x) b;
-      answers = subst (λ (u : State). Answers s line u (reported c s)) (sym (ap₂ (λ x (y : ℕ). record { tree = x; epoch = y }) p q)) (carried c i l a) }
+      answers = subst (λ (u : State). Answers s line u (reported c s)) (sym (ap₂ (λ x (y : ℕ). record { tree = x; epoch = y }) p q)) (carried c i l a);
+    }
 
 -- the same where nothing changed, from a state that is shown another way
 pub same-state : (s t : State) (line before done : List ℕ) → s ≡ t → Answer s line s before done → Answer s line t before done
@@ -50,14 +51,15 @@ pub none-yet : (s : State) (input before : List ℕ) → SoFar s input input s b
 none-yet s input before = record { done = []; bytes = []; plays = start; lines = refl; appended = sym (append-nil before) }
 
 pub one-more : (s : State) (input left line behind : List ℕ) (t u : State) (before mid last : List ℕ) → SoFar s input left t before mid → linesOf left ≡ line ∷ linesOf behind →
-  Answer t line u mid last → SoFar s input behind u before last
+    Answer t line u mid last → SoFar s input behind u before last
 one-more s input left line behind t u before mid last f e a =
     record {
       done = f .done ++ line ∷ [];
       bytes = f .bytes ++ a .bytes;
       plays = next (f .plays) line (a .bytes) (a .answers);
       lines = f .lines ∙ ap (λ x. f .done ++ x) e ∙ sym (append-assoc (f .done) (line ∷ []) (linesOf behind));
-      appended = appended-more before mid last (f .bytes) (a .bytes) (f .appended) (a .appended) }
+      appended = appended-more before mid last (f .bytes) (a .bytes) (f .appended) (a .appended);
+    }
 
 pub all-played : (s : State) (input left : List ℕ) (t : State) (before after : List ℕ) → SoFar s input left t before after → linesOf left ≡ [] → Played s (linesOf input) before after
 all-played s input left t before after f e =
@@ -65,4 +67,5 @@ all-played s input left t before after f e =
       end = t;
       bytes = f .bytes;
       appended = f .appended;
-      plays = subst (λ ls. Plays s ls t (f .bytes)) (sym (f .lines ∙ ap (λ x. f .done ++ x) e ∙ append-nil (f .done))) (f .plays) }
+      plays = subst (λ ls. Plays s ls t (f .bytes)) (sym (f .lines ∙ ap (λ x. f .done ++ x) e ∙ append-nil (f .done))) (f .plays);
+    }

@@ -64,8 +64,8 @@ pub data Printed (input : List ℕ) : List ℕ → Type 0 where
   empty : linesOf input ≡ [] → Printed input (refusalBytes 1)
   -- its first line is no founder's, or names nobody
   no-founder : (first : List ℕ) (rest : List (List ℕ)) → length (linesOf input) ≤ maxLines → linesOf input ≡ first ∷ rest →
-    ((m : MemberId) → MemberInRange m → first ≡ founderBytes m → ⊥) → Printed input (refusalBytes 1)
+      ((m : MemberId) → MemberInRange m → first ≡ founderBytes m → ⊥) → Printed input (refusalBytes 1)
   bad-founder : (m : MemberId) (rest : List (List ℕ)) → length (linesOf input) ≤ maxLines → linesOf input ≡ founderBytes m ∷ rest → m .0 ≡ nobody → Printed input (refusalBytes 8)
   -- the other lines are played
   played : (m : MemberId) (rest : List (List ℕ)) (end : State) (bytes : List ℕ) → length (linesOf input) ≤ maxLines → linesOf input ≡ founderBytes m ∷ rest → m .0 < nobody →
-    Plays (founding (m .0)) rest end bytes → Printed input bytes
+      Plays (founding (m .0)) rest end bytes → Printed input bytes

@@ -1,8 +1,8 @@
 // What a station does with a script, and what it prints of each commit.
 pub mod laws;
-mod script;
 mod report;
+mod script;
 
-pub use script::play;
 pub use report::write_refusal;
 pub use report::write_report;
+pub use script::play;

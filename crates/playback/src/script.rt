@@ -9,12 +9,12 @@ ghost use Rattle.playback.specs.Report.{refusalBytes};
 ghost use Rattle.playback.specs.Steps.{Answered, PlayedAll};
 use crate::report::write_refusal;
 use crate::report::write_report;
-use commits::apply;
 use commits::CommitError;
 use commits::CommitKeys;
 use commits::Epoch;
 use commits::PathKeys;
 use commits::Refusal;
+use commits::apply;
 use ratchet_tree::PublicKey;
 use ratchet_tree::RatchetTree;
 use scripts::line::read_founder;
@@ -36,17 +36,34 @@ pub struct Station {
 }
 
 // Plays one line, and appends what is printed for it.
-fn answer(heap: Global, station: &mut Station, line: &[u8], out: &mut Vec<u8>) -> Result<(), AllocError>
+fn answer(
+    heap: Global,
+    station: &mut Station,
+    line: &[u8],
+    out: &mut Vec<u8>,
+) -> Result<(), AllocError>
     ensures { λ r. ⌜ Answered (now (station .entry)) (now (line .entry)) (now (station .exit)) (vec-items (now (out .entry))) (vec-items (now (out .exit))) r ⌝ }
 {
     let Some(commit) = read_line(line) else {
         return write_refusal(out, Refusal::Malformed);
     };
-    let keys = CommitKeys { newcomer: HALFLESS, path: PathKeys { leaf: HALFLESS, nodes: &[] } };
+    let keys = CommitKeys {
+        newcomer: HALFLESS,
+        path: PathKeys {
+            leaf: HALFLESS,
+            nodes: &[],
+        },
+    };
     match apply(heap, &mut station.tree, station.epoch, commit, keys) {
         Ok(applied) => {
             station.epoch = Epoch(station.epoch.0 + 1);
-            write_report(out, station.epoch, applied.boxes, applied.node_keys, &station.tree)
+            write_report(
+                out,
+                station.epoch,
+                applied.boxes,
+                applied.node_keys,
+                &station.tree,
+            )
         }
         Err(error) => match error {
             CommitError::Refused(refusal) => write_refusal(out, refusal),
@@ -56,7 +73,12 @@ fn answer(heap: Global, station: &mut Station, line: &[u8], out: &mut Vec<u8>) -
 }
 
 // Plays every line of the input, and appends what is printed for them.
-fn play_lines(heap: Global, station: &mut Station, input: &[u8], out: &mut Vec<u8>) -> Result<(), AllocError>
+fn play_lines(
+    heap: Global,
+    station: &mut Station,
+    input: &[u8],
+    out: &mut Vec<u8>,
+) -> Result<(), AllocError>
     ensures { λ r. ⌜ PlayedAll (now (station .entry)) (linesOf (now (input .entry))) (vec-items (now (out .entry))) (vec-items (now (out .exit))) r ⌝ }
 {
     let mut rest = input;
@@ -92,7 +114,10 @@ pub fn play(heap: Global, input: &[u8]) -> Result<Vec<u8>, AllocError>
         return refused(heap, Refusal::BadTree);
     }
     let tree = RatchetTree::founded(heap, founder, HALFLESS)?;
-    let mut station = Station { tree, epoch: Epoch(0) };
+    let mut station = Station {
+        tree,
+        epoch: Epoch(0),
+    };
     let mut out = Vec::new(heap);
     play_lines(heap, &mut station, rest, &mut out)?;
     Ok(out)

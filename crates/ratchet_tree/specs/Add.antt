@@ -1,5 +1,5 @@
 -- What adding answers.
--- `Grown`: a copy of a tree with a blank leaf; `Joined`: the tree with the newcomer; `Added`: the tree after adding, or why it stayed as it was.
+-- `Grown`: a copy of a tree with a blank leaf; `Joined`: the tree with the newcomer, or why there is none.
 -- Assumes nothing.
 use mathlib.Core.Path.{_≡_}
 use mathlib.Core.Bool.{true}
@@ -28,8 +28,3 @@ Grown t (Err e) = Refused (theTree t) e
 abbrev pub Joined : ℕ → PublicKey → RatchetTree → Result RatchetTree TreeError → Type 0
 Joined m k t (Ok u) = theTree u ≡ added m k (grown (theTree t))
 Joined m k t (Err e) = Refused (theTree t) e
-
--- the tree before, the tree after
-abbrev pub Added : {T : Type 0} → ℕ → PublicKey → RatchetTree → RatchetTree → Result T TreeError → Type 0
-Added m k t u (Ok x) = theTree u ≡ added m k (grown (theTree t))
-Added m k t u (Err e) = (u ≡ t) × Refused (theTree t) e

@@ -8,7 +8,7 @@ ghost use Rattle.std.specs.Vec.{made};
 ghost use Rattle.theory.specs.Limits.{maxDepth};
 ghost use Rattle.theory.specs.Tree.{added, isBlank, leaf, occupied, unmergedAt};
 ghost use Rattle.tree_math.specs.Span.{span};
-ghost use Rattle.ratchet_tree.specs.Add.{Added, Grown, Joined};
+ghost use Rattle.ratchet_tree.specs.Add.{Grown, Joined};
 ghost use Rattle.ratchet_tree.specs.Nodes.{leafOf, parentOf, treeOf};
 ghost use Rattle.ratchet_tree.specs.Trees.{theTree};
 use crate::copy::copy_nodes;
@@ -135,13 +135,5 @@ impl RatchetTree {
             return Err(TreeError::OutOfMemory);
         };
         Ok(next)
-    }
-
-    // Seats the newcomer; where there is no room or no memory the tree stays as it was.
-    pub fn add(&mut self, heap: Global, member: MemberId, key: PublicKey) -> Result<(), TreeError>
-        ensures { λ r. ⌜ Added (member .0) key (now (self .entry)) (now (self .exit)) r ⌝ }
-    {
-        *self = self.with_member(heap, member, key)?;
-        Ok(())
     }
 }

@@ -40,7 +40,7 @@ fn copy_node(heap: Global, node: &Node) -> Result<Node, AllocError>
     }
 }
 
-pub fn copy_nodes(heap: Global, nodes: &[Node]) -> Result<Vec<Node>, AllocError>
+pub(crate) fn copy_nodes(heap: Global, nodes: &[Node]) -> Result<Vec<Node>, AllocError>
     ensures { λ r. ⌜ made r (λ v. map seen (vec-items v) ≡ map seen (now (nodes .entry))) ⌝ }
 {
     let mut copies = Vec::new(heap);
@@ -62,7 +62,7 @@ fn blank_node(index: usize) -> Node
 }
 
 // Appends a blank parent, and behind it as many blank nodes as there were.
-pub fn double(nodes: &mut Vec<Node>) -> Result<(), AllocError>
+pub(crate) fn double(nodes: &mut Vec<Node>) -> Result<(), AllocError>
     ensures { λ r. ⌜ Appends (map seen (vec-items (now (nodes .entry)))) (replicate (length (vec-items (now (nodes .entry))) + 1) (blankLeaf, blankParent)) (map seen (vec-items (now (nodes .exit)))) r ⌝ }
 {
     let count = nodes.len();

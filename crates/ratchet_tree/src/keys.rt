@@ -120,7 +120,7 @@ impl<'a> Part<'a> {
     }
 
     // Appends the fewest keys that reach everybody seated here.
-    pub fn push_resolution(self, out: &mut Vec<PublicKey>) -> Result<(), AllocError>
+    fn push_resolution(self, out: &mut Vec<PublicKey>) -> Result<(), AllocError>
         ensures { λ r. ⌜ Appends (vec-items (now (out .entry))) (resolution-of (partTree (self .entry))) (vec-items (now (out .exit))) r ⌝ }
     {
         match self.split() {

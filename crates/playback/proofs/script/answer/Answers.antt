@@ -28,5 +28,6 @@ returns-in-Refused c =
       bytes = refusalBytes (numberOf (c .in-Refused .refusal));
       appended = c .write-refusal-in-Refused .ensures .bytes .items k;
       answers =
-        refused (c .in-Some .commit) (c .in-Some .ensures tt .1) (c .in-Some .ensures tt .0) (numberOf (c .in-Refused .refusal))
-        (subst (λ (x : CommitError). Stopped (c .args .station .now .epoch .0) (commitOf (c .in-Some .commit)) (theTree (c .args .station .now .tree)) x) (c .in-Refused .is) (c .in-Err .ensures tt .tree .1)) })
+          refused (c .in-Some .commit) (c .in-Some .ensures tt .1) (c .in-Some .ensures tt .0) (numberOf (c .in-Refused .refusal))
+          (subst (λ (x : CommitError). Stopped (c .args .station .now .epoch .0) (commitOf (c .in-Some .commit)) (theTree (c .args .station .now .tree)) x) (c .in-Refused .is) (c .in-Err .ensures tt .tree .1));
+    })
