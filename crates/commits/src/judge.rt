@@ -8,15 +8,12 @@ ghost use Rattle.commits.specs.Refusals.{numberOf};
 use crate::change::Change;
 use crate::change::Commit;
 use crate::change::Epoch;
+use crate::limits::LAST_EPOCH;
+use crate::limits::MAX_MEMBERS;
+use crate::limits::NOBODY;
 use crate::refusal::Refusal;
 use ratchet_tree::MemberId;
 use ratchet_tree::RatchetTree;
-
-const MAX_MEMBERS: usize = 1024;
-
-const NOBODY: u16 = 65535;
-
-const LAST_EPOCH: u32 = 4294967295;
 
 fn removal_verdict(tree: &RatchetTree, committer: MemberId, member: MemberId) -> Option<Refusal>
     ensures { λ r. ⌜ mapped numberOf r ≡ changeRefusal (committer .0) (changeOf (Change.Remove member)) (theTree (now (tree .entry))) ⌝ }

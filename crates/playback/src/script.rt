@@ -12,6 +12,7 @@ use crate::report::write_report;
 use commits::CommitError;
 use commits::CommitKeys;
 use commits::Epoch;
+use commits::NOBODY;
 use commits::PathKeys;
 use commits::Refusal;
 use commits::apply;
@@ -26,8 +27,6 @@ use std::alloc::Global;
 
 // A station has no vault: this half stands in for every key.
 const HALFLESS: PublicKey = PublicKey([0; 32]);
-
-const NOBODY: u16 = 65535;
 
 #[derive(Drop)]
 pub struct Station {

@@ -30,8 +30,14 @@ mod tests {
             (b"0\nrenew 0", b"1 0 0 0\n"),
             (b"0\nrenew 0\n", b"1 0 0 0\n"),
             (b"0\n\nrenew 0\n", b"1\n1 0 0 0\n"),
-            (b"0\nrenew 0\r\nrenew  0\nrenew\t0\nrenew 0\0\nrenew \xc3\xa9\n", b"1\n1\n1\n1\n1\n"),
-            (b"0\nrenew 1\nremove 0 0\nremove 0 65535\nadd 0 0\nadd 0 65535\n", b"3\n4\n4\n5\n5\n"),
+            (
+                b"0\nrenew 0\r\nrenew  0\nrenew\t0\nrenew 0\0\nrenew \xc3\xa9\n",
+                b"1\n1\n1\n1\n1\n",
+            ),
+            (
+                b"0\nrenew 1\nremove 0 0\nremove 0 65535\nadd 0 0\nadd 0 65535\n",
+                b"3\n4\n4\n5\n5\n",
+            ),
             (b"7\nadd 7 65534\nadd 7 65534\n", b"1 2 1 7 * 65534\n5\n"),
             (b"0\nread 0\n1\nadd 0 1\n", b"1\n1\n1 2 1 0 * 1\n"),
             (
@@ -66,7 +72,10 @@ mod tests {
         let mut script = Vec::new(heap);
         script.extend_from_slice(b"0\n")?;
         for number in 1..1025u16 {
-            let commit = Commit { committer: MemberId(0), change: Change::Add(MemberId(number)) };
+            let commit = Commit {
+                committer: MemberId(0),
+                change: Change::Add(MemberId(number)),
+            };
             write_line(&mut script, commit)?;
             script.push(b'\n')?;
         }

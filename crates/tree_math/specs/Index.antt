@@ -1,7 +1,7 @@
 -- The places of a tree's nodes, each found by a walk from the top: compare with the middle node, then go on in the part on that side.
 -- `rootOf`: the root; `heightOf`, `parentOf`, `leftOf`, `rightOf`: of the node at an index, none outside the tree;
 -- `leafOf`: the node index of the leaf at a position; `bySide`, `fromRight`: a step of the walk;
--- `maxDepth`, `inDepth`, `nodeOf`: as the code answers.
+-- `inDepth`, `nodeOf`: as the code answers.
 -- Assumes nothing.
 use Prim.Native.Nat.{ℕ, zero, suc, _+_, _-_, _^_}
 use mathlib.Core.Bool.{cond}
@@ -9,6 +9,7 @@ use lib.Dec.{eqb, ltb, leb}
 use Rattle.std.specs.Options.{mapped}
 use Rattle.std.specs.declared.option.Option.{Option}
 use Rattle.std.specs.declared.option.Option.the-variants.{Some, None}
+use Rattle.theory.specs.Limits.{maxDepth}
 use Rattle.tree_math.specs.declared.index.NodeIndex.{NodeIndex}
 use Rattle.tree_math.specs.Span.{span, middle}
 
@@ -51,10 +52,6 @@ rightOf (suc h) i =
 unfoldable pub leafOf : ℕ → ℕ → Option ℕ
 leafOf zero k = cond (eqb k 0) (Some 0) None
 leafOf (suc h) k = cond (ltb k (2 ^ h)) (leafOf h k) (fromRight h (leafOf h (k - 2 ^ h)))
-
--- the deepest tree that the code answers for
-abbrev pub maxDepth : ℕ
-maxDepth = 10
 
 -- the answer for a tree of depth d, none where it is too deep
 abbrev pub inDepth : {X : Type 0} → ℕ → Option X → Option X
