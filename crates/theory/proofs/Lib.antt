@@ -21,3 +21,4 @@ pub mod Secrecy
 pub mod Healing
 pub mod Reaching
 pub mod Known
+pub mod Heights

@@ -1,18 +1,20 @@
 -- The laws of trees and of runs, in the words of their subject: who sits where, and what becomes of each leaf and parent.
 -- `Removal`, `Addition`, `UnmergedSince`, `Growth`: what one change does, by the records `Without`, `Seating`, `Unmerged`, `Doubled`;
--- `ResolutionEmpty`, `LevelKept`: what holds of every tree of a run; `PositionIs`, by `Positioned`: where a position lies.
+-- `ResolutionEmpty`, `LevelKept`: what holds of every tree of a run; `PositionIs`, by `Positioned`: where a position lies;
+-- `HeldByHeight`: what a member holds, height by height.
 -- Assumes nothing.
 use mathlib.Core.Path.{_≡_}
 use mathlib.Core.Bool.{false, not, _||_}
-use mathlib.Core.List.{[], _∷_}
+use mathlib.Core.List.{List, [], _∷_, _++_}
 use mathlib.Core.Logic.{_↔_}
-use Prim.Native.Nat.{ℕ, _≤_}
+use Prim.Native.Nat.{ℕ, zero, suc, _≤_}
 use lib.Dec.{T, eqb}
 use Rattle.std.specs.Options.{mapped}
 use Rattle.std.specs.declared.option.Option.the-variants.{Some, None}
 use Rattle.theory.specs.Limits.{maxDepth}
 use Rattle.theory.specs.Secrets.{Secret}
 use Rattle.theory.specs.Tree.{Tree, Leaf, blankLeaf, occupied, blankParent, isBlank, seated, full, height, isLevel, position, resolution, grown, unmergedAt, added, removed}
+use Rattle.theory.specs.Held.{held, heldAt}
 use Rattle.theory.specs.Group.{Commit, group}
 use Rattle.theory.specs.Places.{Place, left, right, leafAt, parentAt, sits, hasKey, hasUnmerged, Over, LeftOf, leavesBefore, Below}
 
@@ -106,3 +108,12 @@ pub record Positioned {K : Type 0} (m : ℕ) (t : Tree K) : Type 0 where
 -- a position says where a member sits
 abbrev pub PositionIs : Type 0
 PositionIs = (m : ℕ) (t : Tree Secret) → Positioned m t
+
+-- the keys that m holds at heights h and below, from the top down
+unfoldable pub heldDown : {K : Type 0} → ℕ → ℕ → Tree K → List K
+heldDown m zero t = heldAt m zero t
+heldDown m (suc h) t = heldAt m (suc h) t ++ heldDown m h t
+
+-- in a level tree, all that a member holds is what it holds at each height
+abbrev pub HeldByHeight : Type 0
+HeldByHeight = (d m : ℕ) (t : Tree Secret) → T (isLevel d t) → heldDown m d t ≡ held m t

@@ -1,5 +1,5 @@
 // The laws of trees and of runs. Each function here has one as its contract.
-ghost use Rattle.theory.specs.Laws.{Removal, Addition, UnmergedSince, Growth, ResolutionEmpty, LevelKept, PositionIs};
+ghost use Rattle.theory.specs.Laws.{Removal, Addition, UnmergedSince, Growth, ResolutionEmpty, LevelKept, PositionIs, HeldByHeight};
 
 // A removal empties the member's leaf and every parent above it, and touches nothing else.
 pub fn removal_holds() -> u8
@@ -46,6 +46,13 @@ pub fn level_kept_holds() -> u8
 // A member sits at the leaf that its position says, and has none exactly if it is not seated.
 pub fn position_is_holds() -> u8
     ensures { λ _. ⌜ PositionIs ⌝ }
+{
+    0
+}
+
+// In a level tree, all that a member holds is what it holds at each height.
+pub fn held_by_height_holds() -> u8
+    ensures { λ _. ⌜ HeldByHeight ⌝ }
 {
     0
 }

@@ -15,6 +15,7 @@ pub use follow::well_formed_is_holds;
 pub use follow::well_formed_kept_holds;
 pub use laws::addition_holds;
 pub use laws::growth_holds;
+pub use laws::held_by_height_holds;
 pub use laws::level_kept_holds;
 pub use laws::position_is_holds;
 pub use laws::removal_holds;
