@@ -1,5 +1,5 @@
 -- What carrying out a commit answers.
--- `Asked`, `Ready`: the tree before the path; `welcomes`: how many boxes are for a newcomer's init key; `Applies`: the tree after, and what the message holds; `Counting`: the counts alone.
+-- `Asked`, `Ready`: the tree before the path; `welcomes`: how many boxes are for a newcomer's init key; `Applies`: the tree after, and what the message holds; `MessageCounts`, `Counting`: the counts alone.
 -- Assumes nothing.
 use mathlib.Core.Path.{_≡_}
 use mathlib.Core.Bool.{true}
@@ -11,7 +11,7 @@ use Rattle.std.specs.declared.option.Option.the-variants.{Some, None}
 use Rattle.std.specs.declared.result.Result.{Result}
 use Rattle.std.specs.declared.result.Result.the-variants.{Ok, Err}
 use Rattle.theory.specs.Group.{Change, renew, remove, add, Commit, refusal, readied, laidBy}
-use Rattle.theory.specs.Path.{Laid}
+use Rattle.theory.specs.Path.{Laid, laid}
 use Rattle.theory.specs.Tree.{Tree}
 use Rattle.ratchet_tree.specs.Add as adding
 use Rattle.ratchet_tree.specs.Trees.{theTree}
@@ -68,11 +68,15 @@ abbrev pub Applies : ℕ → Commit → CommitKeys → RatchetTree → RatchetTr
 Applies e c k t u (Ok a) = Carried e c (theTree t) (theTree u) (laidBy c (k .newcomer) (k .path .leaf) (keyFrom (k .path)) (theTree t)) a
 Applies e c k t u (Err x) = (u ≡ t) × Stopped e c (theTree t) x
 
--- the counts that a message is held to, whatever keys the path lays
+-- the counts of a path that is to be laid on a tree, whatever keys it lays
+pub record MessageCounts (c : Commit) (t : Tree PublicKey) (n : Counts) : Type 0 where
+  pub keys : (own : PublicKey) (keys : ℕ → PublicKey) → n .«node_keys» ≡ laid (c .committer) own keys t .levels
+  pub boxes : (own : PublicKey) (keys : ℕ → PublicKey) → n .boxes ≡ capped (length (laid (c .committer) own keys t .targets) + welcomes (c .change))
+
+-- the counts that a commit's message is held to
 pub record Counted (e : ℕ) (c : Commit) (fresh : PublicKey) (t : Tree PublicKey) (n : Counts) : Type 0 where
   pub allowed : refusal e c t ≡ None
-  pub keys : (own : PublicKey) (keys : ℕ → PublicKey) → n .«node_keys» ≡ laidBy c fresh own keys t .levels
-  pub boxes : (own : PublicKey) (keys : ℕ → PublicKey) → n .boxes ≡ capped (length (laidBy c fresh own keys t .targets) + welcomes (c .change))
+  pub counts : MessageCounts c (readied (c .change) fresh t) n
 
 abbrev pub Counting : ℕ → Commit → PublicKey → Tree PublicKey → Result Counts CommitError → Type 0
 Counting e c fresh t (Ok n) = Counted e c fresh t n

@@ -1,7 +1,7 @@
 // A commit carried out on a tree: what is asked, then the path. The tree changes only when all of it is done.
 ghost use mathlib.Core.Path.{_≡_};
 ghost use Rattle.ratchet_tree.specs.Trees.{theTree};
-ghost use Rattle.commits.specs.Apply.{Applies, Asked, Counting, Ready, welcomes};
+ghost use Rattle.commits.specs.Apply.{Applies, Asked, Counting, MessageCounts, Ready, welcomes};
 ghost use Rattle.commits.specs.Commits.{changeOf, commitOf};
 use crate::change::Change;
 use crate::change::Commit;
@@ -116,7 +116,19 @@ pub fn apply(
     })
 }
 
-// How many node keys and boxes the message of a commit has to have, without carrying it out.
+// How many node keys and boxes the message of a commit has to have, from the tree that the path is to be laid on.
+pub fn message_counts(readied: &RatchetTree, commit: Commit) -> Counts
+    ensures value { λ r. ⌜ MessageCounts (commitOf commit) (theTree (now (readied .entry))) r ⌝ }
+{
+    let path = path_counts(readied.as_part(), commit.committer);
+    let boxes = path.boxes.saturating_add(welcome_count(commit.change));
+    Counts {
+        node_keys: path.node_keys,
+        boxes,
+    }
+}
+
+// The same for a commit that is not carried out.
 pub fn commit_counts(
     heap: Global,
     tree: &RatchetTree,
@@ -126,11 +138,6 @@ pub fn commit_counts(
 ) -> Result<Counts, CommitError>
     ensures value { λ r. ⌜ Counting (epoch .0) (commitOf commit) newcomer (theTree (now (tree .entry))) r ⌝ }
 {
-    let next = ready(heap, tree, epoch, commit, newcomer)?;
-    let path = path_counts(next.as_part(), commit.committer);
-    let boxes = path.boxes.saturating_add(welcome_count(commit.change));
-    Ok(Counts {
-        node_keys: path.node_keys,
-        boxes,
-    })
+    let readied = ready(heap, tree, epoch, commit, newcomer)?;
+    Ok(message_counts(&readied, commit))
 }

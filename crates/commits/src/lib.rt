@@ -13,6 +13,7 @@ pub use carry::CommitError;
 pub use carry::CommitKeys;
 pub use carry::apply;
 pub use carry::commit_counts;
+pub use carry::message_counts;
 pub use carry::ready;
 pub use change::Change;
 pub use change::ChangeDebug;
