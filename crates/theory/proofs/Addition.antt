@@ -2,7 +2,7 @@
 -- Assumes nothing.
 use mathlib.Core.Path.{_≡_, refl, sym, _∙_, ap}
 use mathlib.Core.Bool.{Bool, true, false, _||_, not, or-assoc, or-comm}
-use mathlib.Core.List.{[], _∷_}
+use mathlib.Core.List.{List, [], _∷_}
 use mathlib.Core.Logic.{inl, inr}
 use Prim.Native.Nat.{ℕ}
 use lib.Dec.{T, T-not, eqb, eqb-refl}
@@ -11,19 +11,19 @@ use Rattle.std.specs.declared.option.Option.{Option}
 use Rattle.std.specs.declared.option.Option.the-variants.{Some, None}
 use Rattle.theory.specs.Tree.{Tree, leaf, node, Leaf, blankLeaf, occupied, Parent, blankParent, keyed, isBlank, seated, full, unmergedAt, added}
 use Rattle.theory.specs.Held.{isUnmerged}
-use Rattle.theory.specs.Places.{Place, left, right, leafAt, parentAt, sits, hasKey, hasUnmerged, Over, top, down, LeftOf, parts, after}
+use Rattle.theory.specs.Places.{Turn, left, right, leafAt, parentAt, sits, hasKey, hasUnmerged, Over, top, down, LeftOf, parts, after}
 use Rattle.theory.specs.Laws.{Seating, Addition, Unmerged, UnmergedSince}
 use Rattle.theory.proofs.Tests.{decided, is-true, is-false, and-left, and-right, nand-right, nor-left, nor-right, same-some, none-some}
 use Rattle.theory.proofs.Places.{sits-seated}
 
 -- m comes with k into the first tree, which makes the second of it, and takes the place
-pub data Adding {K : Type 0} (m : ℕ) (k : K) : Tree K → Tree K → Place → Type 0 where
+pub data Adding {K : Type 0} (m : ℕ) (k : K) : Tree K → Tree K → List Turn → Type 0 where
   here : Adding m k (leaf blankLeaf) (leaf (occupied m k)) []
   inLeft :
-      {c : Parent K} {l l′ r : Tree K} {p : Place} → Adding m k l l′ p →
+      {c : Parent K} {l l′ r : Tree K} {p : List Turn} → Adding m k l l′ p →
       Adding m k (node c l r) (node (unmergedAt m c) l′ r) (left ∷ p)
   inRight :
-      {c : Parent K} {l r r′ : Tree K} {p : Place} → T (full l) → Adding m k r r′ p →
+      {c : Parent K} {l r r′ : Tree K} {p : List Turn} → T (full l) → Adding m k r r′ p →
       Adding m k (node c l r) (node (unmergedAt m c) l r′) (right ∷ p)
 
 -- a full tree takes nobody
@@ -35,7 +35,7 @@ added-full m k (node c l r) h =
     rw (is-true (full l) (and-left (full l) (full r) h), is-true (full r) (and-right (full l) (full r) h))
 
 -- every other tree has a place
-pub adding : {K : Type 0} (m : ℕ) (k : K) (t : Tree K) → T (not (full t)) → (p : Place) × Adding m k t (added m k t) p
+pub adding : {K : Type 0} (m : ℕ) (k : K) (t : Tree K) → T (not (full t)) → (p : List Turn) × Adding m k t (added m k t) p
 unfolding added full
 adding m k (leaf blankLeaf) h = ([], here)
 adding m k (leaf (occupied w j)) h = elim h [ ]
@@ -49,7 +49,7 @@ adding m k (node c l r) h =
 
 -- no leaf of a full tree is blank
 full-leaf :
-    {K : Type 0} (q : Place) (t : Tree K) → T (full t) → (x : Leaf K) → leafAt q t ≡ Some x → T (not (isBlank x))
+    {K : Type 0} (q : List Turn) (t : Tree K) → T (full t) → (x : Leaf K) → leafAt q t ≡ Some x → T (not (isBlank x))
 unfolding leafAt full
 full-leaf [] (leaf y) h x e = rw (same-some e) at h
 full-leaf [] (node c l r) h x e = absurd (none-some e)
@@ -62,20 +62,20 @@ or-last true b c = refl
 or-last false b c = or-comm c b
 
 module _ {K : Type 0} {m : ℕ} {k : K} where
-  pub place-free : {t u : Tree K} {p : Place} → Adding m k t u p → leafAt p t ≡ Some blankLeaf
+  pub place-free : {t u : Tree K} {p : List Turn} → Adding m k t u p → leafAt p t ≡ Some blankLeaf
   unfolding leafAt
   place-free here = refl
   place-free (inLeft a) = place-free a
   place-free (inRight f a) = place-free a
 
-  pub place-taken : {t u : Tree K} {p : Place} → Adding m k t u p → leafAt p u ≡ Some (occupied m k)
+  pub place-taken : {t u : Tree K} {p : List Turn} → Adding m k t u p → leafAt p u ≡ Some (occupied m k)
   unfolding leafAt
   place-taken here = refl
   place-taken (inLeft a) = place-taken a
   place-taken (inRight f a) = place-taken a
 
   pub before-taken :
-      {t u : Tree K} {p q : Place} → Adding m k t u p → LeftOf q p → (x : Leaf K) → leafAt q t ≡ Some x → T (not (isBlank x))
+      {t u : Tree K} {p q : List Turn} → Adding m k t u p → LeftOf q p → (x : Leaf K) → leafAt q t ≡ Some x → T (not (isBlank x))
   unfolding leafAt full
   before-taken here b x e = elim b [ ]
   before-taken (inLeft a) (after b) x e = before-taken a b x e
@@ -83,7 +83,7 @@ module _ {K : Type 0} {m : ℕ} {k : K} where
   before-taken (inRight f a) (after b) x e = before-taken a b x e
 
   pub leaves-kept :
-      {t u : Tree K} {p : Place} → Adding m k t u p → (q : Place) → (q ≡ p → ⊥) → leafAt q u ≡ leafAt q t
+      {t u : Tree K} {p : List Turn} → Adding m k t u p → (q : List Turn) → (q ≡ p → ⊥) → leafAt q u ≡ leafAt q t
   unfolding leafAt
   leaves-kept here [] h = absurd (h refl)
   leaves-kept here (d ∷ q) h = refl
@@ -95,7 +95,7 @@ module _ {K : Type 0} {m : ℕ} {k : K} where
   leaves-kept (inRight f a) (right ∷ q) h = leaves-kept a q (λ e. h (ap (λ w. right ∷ w) e))
 
   pub parents-above :
-      {t u : Tree K} {p q : Place} → Adding m k t u p → Over q p → parentAt q u ≡ mapped (unmergedAt m) (parentAt q t)
+      {t u : Tree K} {p q : List Turn} → Adding m k t u p → Over q p → parentAt q u ≡ mapped (unmergedAt m) (parentAt q t)
   unfolding parentAt
   parents-above here o = elim o [ ]
   parents-above (inLeft a) top = refl
@@ -104,7 +104,7 @@ module _ {K : Type 0} {m : ℕ} {k : K} where
   parents-above (inRight f a) (down o) = parents-above a o
 
   pub parents-kept :
-      {t u : Tree K} {p : Place} → Adding m k t u p → (q : Place) → (Over q p → ⊥) → parentAt q u ≡ parentAt q t
+      {t u : Tree K} {p : List Turn} → Adding m k t u p → (q : List Turn) → (Over q p → ⊥) → parentAt q u ≡ parentAt q t
   unfolding parentAt
   parents-kept here [] h = refl
   parents-kept here (d ∷ q) h = refl
@@ -115,7 +115,7 @@ module _ {K : Type 0} {m : ℕ} {k : K} where
   parents-kept (inRight f a) (left ∷ q) h = refl
   parents-kept (inRight f a) (right ∷ q) h = parents-kept a q (λ o. h (down o))
 
-  pub seated-adding : {t u : Tree K} {p : Place} → Adding m k t u p → (w : ℕ) → seated w u ≡ (seated w t || eqb m w)
+  pub seated-adding : {t u : Tree K} {p : List Turn} → Adding m k t u p → (w : ℕ) → seated w u ≡ (seated w t || eqb m w)
   unfolding seated
   seated-adding here w = refl
   seated-adding (inLeft {l} {r} a) w = rw (seated-adding a w) (or-last (seated w l) (seated w r) (eqb m w))
@@ -123,7 +123,7 @@ module _ {K : Type 0} {m : ℕ} {k : K} where
       rw (seated-adding a w) (sym (or-assoc (seated w l) (seated w r) (eqb m w)))
 
   pub only-place :
-      {t u : Tree K} {p : Place} → Adding m k t u p → (q : Place) → T (not (seated m t)) → T (sits m q u) → q ≡ p
+      {t u : Tree K} {p : List Turn} → Adding m k t u p → (q : List Turn) → T (not (seated m t)) → T (sits m q u) → q ≡ p
   unfolding leafAt seated
   only-place here [] h s = refl
   only-place here (d ∷ q) h s = elim s [ ]
@@ -165,8 +165,8 @@ keyed-unmerged m (Some (keyed k un)) = rw (is-true (eqb m m) (eqb-refl m))
 
 pub unmerged :
     {K : Type 0} (m : ℕ) (k : K) (t : Tree K) →
-    T (not (full t)) → T (not (seated m t)) → ((q : Place) → T (not (hasUnmerged m (parentAt q t)))) →
-    (p q : Place) → T (sits m p (added m k t)) → Unmerged m k t p q
+    T (not (full t)) → T (not (seated m t)) → ((q : List Turn) → T (not (hasUnmerged m (parentAt q t)))) →
+    (p q : List Turn) → T (sits m p (added m k t)) → Unmerged m k t p q
 unmerged m k t h absent none p q s =
     let a = adding m k t h in
     let e : p ≡ a .0 = only-place (a .1) p absent s in

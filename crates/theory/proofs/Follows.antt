@@ -11,7 +11,7 @@ use Rattle.theory.specs.Tree.{Tree, leaf, node, blankLeaf, occupied, Parent, b
 use Rattle.theory.specs.Path.{Target, Laid, sealedTo, parentLaid, levelAfter}
 use Rattle.theory.specs.Held.{isUnmerged, nodeKeyHeld, held}
 use Rattle.theory.specs.Group.{Change, renew, remove, add, Commit, Group, readied, newcomer, ownKey, pathKey, pathAt, pathBoxes, welcome, boxesOf, moved, allowed, committed, group, message, stock}
-use Rattle.theory.specs.Places.{Place}
+use Rattle.theory.specs.Places.{Turn}
 use Rattle.theory.specs.Follow.{Follows, entering, Enters, Makes}
 use Rattle.theory.proofs.Tests.{decided, is-true, is-false, or-cases, or-left, or-right, nor-left, nor-right, and-right}
 use Rattle.theory.proofs.Removal.{removed-node, seated-removed}
@@ -254,20 +254,20 @@ newly-unmerged j blankParent = refl
 newly-unmerged j (keyed i un) = rw (is-true (eqb j j) (eqb-refl j))
 
 module _ {K : Type 0} {j : ℕ} {k : K} where
-  pub others-seated : {t u : Tree K} {p : Place} → Adding j k t u p → (m : ℕ) → T (not (eqb j m)) → seated m u ≡ seated m t
+  pub others-seated : {t u : Tree K} {p : List Turn} → Adding j k t u p → (m : ℕ) → T (not (eqb j m)) → seated m u ≡ seated m t
   others-seated {t} a m n = seated-adding a m ∙ (rw (is-false (eqb j m) n) (or-false (seated m t)))
 
-  pub others-held : {t u : Tree K} {p : Place} → Adding j k t u p → (m : ℕ) → T (not (eqb j m)) → held m u ≡ held m t
+  pub others-held : {t u : Tree K} {p : List Turn} → Adding j k t u p → (m : ℕ) → T (not (eqb j m)) → held m u ≡ held m t
   unfolding held
   others-held adds.here m n = rw (is-false (eqb j m) n)
   others-held (adds.inLeft {c} a) m n = rw (others-seated a m n, others-held a m n, others-unmerged m j c n)
   others-held (adds.inRight {c} f a) m n = rw (others-seated a m n, others-held a m n, others-unmerged m j c n)
 
   -- the newcomer itself holds its leaf key and no more
-  newly-seated : {t u : Tree K} {p : Place} → Adding j k t u p → T (seated j u)
+  newly-seated : {t u : Tree K} {p : List Turn} → Adding j k t u p → T (seated j u)
   newly-seated {t} a = rw (seated-adding a j) (or-right (seated j t) (eqb j j) (eqb-refl j))
 
-  pub newly-held : {t u : Tree K} {p : Place} → Adding j k t u p → T (not (seated j t)) → held j u ≡ k ∷ []
+  pub newly-held : {t u : Tree K} {p : List Turn} → Adding j k t u p → T (not (seated j t)) → held j u ≡ k ∷ []
   unfolding seated
   newly-held adds.here n = unfold held in rw (is-true (eqb j j) (eqb-refl j))
   newly-held (adds.inLeft {c} {l} {l′} {r} a) n =

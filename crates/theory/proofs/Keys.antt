@@ -12,7 +12,7 @@ use Rattle.std.proofs.shelf.Tests.{cases-lt}
 use Rattle.theory.specs.Tree.{Tree, leaf, node, Leaf, blankLeaf, occupied, Parent, blankParent, keyed, seated, full, leafKeys, resolution, blankTree, grown, added, removed}
 use Rattle.theory.specs.Path.{Target, Laid, sealedTo, parentLaid, levelAfter, laid}
 use Rattle.theory.specs.Held.{isUnmerged}
-use Rattle.theory.specs.Places.{Place, Below, whole, inLeft, inRight}
+use Rattle.theory.specs.Places.{Turn, Below, whole, inLeft, inRight}
 use Rattle.theory.proofs.Tests.{by-cond, decided, nor, nor-left, nor-right}
 use Rattle.theory.proofs.Addition.{Adding, adding, added-full}
 use Rattle.theory.proofs.Addition as adds
@@ -212,7 +212,7 @@ module _ {K : Type 0} {m : ℕ} {own : K} {keys : ℕ → K} {b : Target K} wher
 
 -- a newcomer is unmerged, and nobody else's place changes
 merged-adding :
-    {K : Type 0} {m : ℕ} {q j : K} {un : List ℕ} {l r l′ r′ : Tree K} {p : Place} (had : ℕ → K → Type 0) →
+    {K : Type 0} {m : ℕ} {q j : K} {un : List ℕ} {l r l′ r′ : Tree K} {p : List Turn} (had : ℕ → K → Type 0) →
     Adding m q (node (keyed j un) l r) (node (keyed j (m ∷ un)) l′ r′) p →
     T (not (seated m (node (keyed j un) l r))) →
     ((w : ℕ) (k : K) → (T (not (isUnmerged w un)) × Has w k (node (keyed j un) l r)) ↔ had w k) →
@@ -276,7 +276,7 @@ module _ {K : Type 0} {I : Type 0} {key : I → K} {had : I → ℕ → K → Ty
       (λ _. atBlank (keyed-removed m x) (keyed-removed m y)) (λ _. atKeyed o e f x y)
 
   keyed-adding :
-      {m : ℕ} {q : K} {t u : Tree K} {p : Place} → Adding m q t u p → T (not (seated m t)) → Keyed key had t → Keyed key had u
+      {m : ℕ} {q : K} {t u : Tree K} {p : List Turn} → Adding m q t u p → T (not (seated m t)) → Keyed key had t → Keyed key had u
   unfolding seated
   keyed-adding adds.here h x = atLeaf
   keyed-adding {m} (adds.inLeft {l} {r} a) h (atBlank x y) =

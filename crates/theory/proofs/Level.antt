@@ -1,5 +1,6 @@
 -- Every tree of a run has all leaves at one depth, at most ten: a full tree of depth d has 2 ^ d members, and the last 1,024 seats are never outgrown.
 -- Assumes nothing.
+use mathlib.Core.List.{List}
 use mathlib.Core.Path.{_≡_, refl, ap}
 use mathlib.Core.Bool.{Bool, true, false, _||_, not}
 use mathlib.Core.Logic.{inl, inr}
@@ -14,7 +15,7 @@ use Rattle.std.proofs.shelf.Tests.{cases-lt}
 use Rattle.theory.specs.Limits.{maxDepth, maxMembers, nobody, lastEpoch}
 use Rattle.theory.specs.Tree.{Tree, leaf, node, Leaf, Parent, isBlank, seated, full, members, height, isLevel, blankTree, grown, added, removed}
 use Rattle.theory.specs.Group.{Change, renew, remove, add, Commit, firstOf, changeRefusal, readied, group}
-use Rattle.theory.specs.Places.{Place}
+use Rattle.theory.specs.Places.{Turn}
 use Rattle.theory.specs.Laws.{LevelKept}
 use Rattle.theory.proofs.Tests.{by-cond, decided, is-false, both, and-left, and-right}
 use Rattle.theory.proofs.Addition.{Adding, here, inLeft, inRight, adding, added-full}
@@ -59,7 +60,7 @@ removed-level m (atNode {d} {l} {r} a b) =
     (λ _. atNode (removed-level m a) (removed-level m b)) (λ _. atNode a b)
 
 adding-level :
-    {K : Type 0} {m : ℕ} {k : K} {t u : Tree K} {p : Place} {d : ℕ} → Adding m k t u p → Level d t → Level d u
+    {K : Type 0} {m : ℕ} {k : K} {t u : Tree K} {p : List Turn} {d : ℕ} → Adding m k t u p → Level d t → Level d u
 adding-level here atLeaf = atLeaf
 adding-level (inLeft a) (atNode x y) = atNode (adding-level a x) y
 adding-level (inRight f a) (atNode x y) = atNode x (adding-level a y)

@@ -22,3 +22,4 @@ pub mod Healing
 pub mod Reaching
 pub mod Known
 pub mod Heights
+pub mod Opened

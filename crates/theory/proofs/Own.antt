@@ -2,14 +2,14 @@
 -- Assumes nothing.
 use mathlib.Core.Path.{_≡_, refl, sym, ap, ap₂}
 use mathlib.Core.Bool.{not}
-use mathlib.Core.List.{[], _∷_, _++_, List·Memᴰ, List·Memᴰ·head, List·Memᴰ·not-nil, List·Memᴰ·append-cases, List·Memᴰ·eq-of-singleton, Memᴰ·append-left, Memᴰ·append-right}
+use mathlib.Core.List.{List, [], _∷_, _++_, List·Memᴰ, List·Memᴰ·head, List·Memᴰ·not-nil, List·Memᴰ·append-cases, List·Memᴰ·eq-of-singleton, Memᴰ·append-left, Memᴰ·append-right}
 use mathlib.Core.Logic.{_⊎_, inl, inr}
 use Prim.Native.Nat.{ℕ, _≤_}
 use native.Mathlib.Omega.{arith}
 use lib.Dec.{T, T-not, not-T, eqb, eqb-refl, eqb→eq}
 use lib.ListN.{length}
 use Rattle.theory.specs.Tree.{Tree, leaf, node, Leaf, blankLeaf, occupied, Parent, blankParent, isAt, seated, full, leafKey, blankTree, grown, added, removed}
-use Rattle.theory.specs.Places.{Place, Below, whole, inLeft, inRight}
+use Rattle.theory.specs.Places.{Turn, Below, whole, inLeft, inRight}
 use Rattle.theory.proofs.Tests.{by-cond, decided, is-true, is-false, or-cases, or-left, or-right, nor-left, nor-right, and-left}
 use Rattle.theory.proofs.Removal.{removed-node, seated-removed}
 use Rattle.theory.proofs.Addition.{Adding, adding, added-full, seated-adding}
@@ -113,10 +113,10 @@ removed-once m (atNode {p} {l} {r} f a b) =
     (removed-once m a) (removed-once m b))
 
 module _ {K : Type 0} {m : ℕ} {j : K} where
-  adding-seats : {t u : Tree K} {p : Place} → Adding m j t u p → (w : ℕ) → T (seated w u) → T (seated w t) ⊎ T (eqb m w)
+  adding-seats : {t u : Tree K} {p : List Turn} → Adding m j t u p → (w : ℕ) → T (seated w u) → T (seated w t) ⊎ T (eqb m w)
   adding-seats {t} a w s = or-cases (seated w t) (eqb m w) (rw (seated-adding a w) at s)
 
-  adding-once : {t u : Tree K} {p : Place} → Adding m j t u p → T (not (seated m t)) → Once t → Once u
+  adding-once : {t u : Tree K} {p : List Turn} → Adding m j t u p → T (not (seated m t)) → Once t → Once u
   unfolding seated
   adding-once adds.here h o = atLeaf
   adding-once (adds.inLeft {l} {l′} {r} a) h (atNode f x y) =
@@ -167,7 +167,7 @@ pub has-grown : {K : Type 0} {w : ℕ} {k : K} (t : Tree K) → Has w k t → Ha
 has-grown {w} {k} t h = by-cond (Has w k) (full t) _ _ (λ _. onLeft h) (λ _. h)
 
 module _ {K : Type 0} {m : ℕ} {j : K} {w : ℕ} {k : K} where
-  pub adding-has : {t u : Tree K} {p : Place} → Adding m j t u p → Has w k u → ((m ≡ w) × (j ≡ k)) ⊎ Has w k t
+  pub adding-has : {t u : Tree K} {p : List Turn} → Adding m j t u p → Has w k u → ((m ≡ w) × (j ≡ k)) ⊎ Has w k t
   adding-has adds.here (here e d) = inl (e, d)
   adding-has (adds.inLeft a) (onLeft h) =
       elim (adding-has a h) [ inl e ↦ inl e | inr g ↦ inr (onLeft g) ]
@@ -176,7 +176,7 @@ module _ {K : Type 0} {m : ℕ} {j : K} {w : ℕ} {k : K} where
   adding-has (adds.inRight f a) (onRight h) =
       elim (adding-has a h) [ inl e ↦ inl e | inr g ↦ inr (onRight g) ]
 
-  pub has-adding : {t u : Tree K} {p : Place} → Adding m j t u p → Has w k t → Has w k u
+  pub has-adding : {t u : Tree K} {p : List Turn} → Adding m j t u p → Has w k t → Has w k u
   has-adding adds.here h = elim h [ ]
   has-adding (adds.inLeft a) (onLeft h) = onLeft (has-adding a h)
   has-adding (adds.inLeft a) (onRight h) = onRight h

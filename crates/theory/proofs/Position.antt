@@ -2,14 +2,14 @@
 -- Assumes nothing.
 use mathlib.Core.Path.{_≡_, refl, sym}
 use mathlib.Core.Bool.{not}
-use mathlib.Core.List.{[], _∷_}
+use mathlib.Core.List.{List, [], _∷_}
 use mathlib.Core.Logic.{_↔_}
 use Prim.Native.Nat.{ℕ}
 use lib.Dec.{T, T-not}
 use Rattle.std.specs.declared.option.Option.{Option}
 use Rattle.std.specs.declared.option.Option.the-variants.{Some, None}
 use Rattle.theory.specs.Tree.{Tree, leaf, node, Parent, isAt, seated, leaves, position, orElse}
-use Rattle.theory.specs.Places.{Place, left, right, leafAt, sits, leavesBefore}
+use Rattle.theory.specs.Places.{Turn, left, right, leafAt, sits, leavesBefore}
 use Rattle.theory.specs.Laws.{Positioned, PositionIs}
 use Rattle.theory.proofs.Tests.{by-cond, nor, same-some, none-some}
 use Rattle.theory.proofs.Places.{sits-seated}
@@ -17,7 +17,7 @@ use Rattle.theory.proofs.Places.{sits-seated}
 -- m isn't seated, or has a place and as many leaves before it as its position says
 pub data Found {K : Type 0} (m : ℕ) (t : Tree K) : Option ℕ → Type 0 where
   nowhere : T (not (seated m t)) → Found m t None
-  at : (p : Place) → T (sits m p t) → Found m t (Some (leavesBefore p t))
+  at : (p : List Turn) → T (sits m p t) → Found m t (Some (leavesBefore p t))
 
 found-node :
     {K : Type 0} (m : ℕ) (c : Parent K) (l r : Tree K) {x y : Option ℕ} → Found m l x → Found m r y →
@@ -34,7 +34,7 @@ found m (node c l r) = found-node m c l r (found m l) (found m r)
 
 found-at :
     {K : Type 0} {m : ℕ} {t : Tree K} {o : Option ℕ} → Found m t o → (i : ℕ) → o ≡ Some i →
-    (p : Place) × T (sits m p t) × (leavesBefore p t ≡ i)
+    (p : List Turn) × T (sits m p t) × (leavesBefore p t ≡ i)
 found-at (nowhere h) i e = absurd (none-some e)
 found-at (at p s) i e = (p, s, same-some e)
 

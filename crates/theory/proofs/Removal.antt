@@ -2,7 +2,7 @@
 -- Assumes nothing.
 use mathlib.Core.Path.{_≡_, refl, sym, _∙_, ap₂}
 use mathlib.Core.Bool.{Bool, true, false, cond, _&&_, _||_, not, and-false}
-use mathlib.Core.List.{[], _∷_}
+use mathlib.Core.List.{List, [], _∷_}
 use mathlib.Core.Logic.{inl, inr}
 use Prim.Native.Nat.{ℕ}
 use native.Mathlib.Omega.{arith}
@@ -11,7 +11,7 @@ use Rattle.std.specs.Options.{mapped}
 use Rattle.std.specs.declared.option.Option.{Option}
 use Rattle.std.specs.declared.option.Option.the-variants.{Some, None}
 use Rattle.theory.specs.Tree.{Tree, leaf, node, Leaf, blankLeaf, occupied, Parent, blankParent, isAt, seated, removed}
-use Rattle.theory.specs.Places.{Place, left, right, leafAt, parentAt, sits, isThere, Over, top, down}
+use Rattle.theory.specs.Places.{Turn, left, right, leafAt, parentAt, sits, isThere, Over, top, down}
 use Rattle.theory.specs.Laws.{Without, Removal}
 use Rattle.theory.proofs.Tests.{decided, is-true, is-false, nor-left, nor-right}
 use Rattle.theory.proofs.Places.{sits-seated, seated-below}
@@ -42,7 +42,7 @@ removed-node m p l r =
 
 -- each leaf is as it was, or without m
 pub leaf-removed :
-    {K : Type 0} (m : ℕ) (w : Place) (t : Tree K) → leafAt w (removed m t) ≡ mapped (vacated m) (leafAt w t)
+    {K : Type 0} (m : ℕ) (w : List Turn) (t : Tree K) → leafAt w (removed m t) ≡ mapped (vacated m) (leafAt w t)
 unfolding leafAt
 leaf-removed m [] (leaf x) = unfold removed in refl
 leaf-removed m [] (node p l r) = rw (removed-node m p l r)
@@ -61,11 +61,11 @@ vacated-elsewhere m None h = refl
 vacated-elsewhere m (Some x) h = rw (is-false (isAt m x) h)
 
 pub leaf-vacated :
-    {K : Type 0} (m : ℕ) (w : Place) (t : Tree K) → T (sits m w t) → leafAt w (removed m t) ≡ Some blankLeaf
+    {K : Type 0} (m : ℕ) (w : List Turn) (t : Tree K) → T (sits m w t) → leafAt w (removed m t) ≡ Some blankLeaf
 leaf-vacated m w t h = leaf-removed m w t ∙ vacated-there m (leafAt w t) h
 
 pub leaf-kept :
-    {K : Type 0} (m : ℕ) (w : Place) (t : Tree K) → T (not (sits m w t)) → leafAt w (removed m t) ≡ leafAt w t
+    {K : Type 0} (m : ℕ) (w : List Turn) (t : Tree K) → T (not (sits m w t)) → leafAt w (removed m t) ≡ leafAt w t
 leaf-kept m w t h = leaf-removed m w t ∙ vacated-elsewhere m (leafAt w t) h
 
 -- everybody else stays seated
@@ -102,7 +102,7 @@ removed-gone m t =
 
 -- each parent above m is blank
 pub parent-blanked :
-    {K : Type 0} (m : ℕ) (t : Tree K) {q p : Place} → T (sits m p t) → Over q p →
+    {K : Type 0} (m : ℕ) (t : Tree K) {q p : List Turn} → T (sits m p t) → Over q p →
     parentAt q (removed m t) ≡ Some blankParent
 unfolding leafAt parentAt seated
 parent-blanked m (leaf x) h top = elim h [ ]
@@ -114,7 +114,7 @@ parent-blanked m (node c l r) h (down {d = right} o) = rw (removed-node m c l r)
 
 -- a parent that is not above m is as it was
 pub parent-kept :
-    {K : Type 0} (m : ℕ) (q : Place) (t : Tree K) → ((p : Place) → Over q p → T (not (sits m p t))) →
+    {K : Type 0} (m : ℕ) (q : List Turn) (t : Tree K) → ((p : List Turn) → Over q p → T (not (sits m p t))) →
     parentAt q (removed m t) ≡ parentAt q t
 unfolding leafAt parentAt seated
 parent-kept m [] (leaf x) h = unfold removed in refl

@@ -10,7 +10,7 @@ use lib.Dec.{T, eqb-refl}
 use Rattle.std.specs.declared.option.Option.the-variants.{Some}
 use Rattle.theory.specs.Tree.{Tree, leaf, node, Leaf, blankLeaf, occupied, Parent, blankParent, keyed, seated, full, resolution, blankTree, grown, added, removed}
 use Rattle.theory.specs.Group.{Change, renew, remove, add, readied}
-use Rattle.theory.specs.Places.{Place, hasKey, Below, whole, inLeft, inRight}
+use Rattle.theory.specs.Places.{Turn, hasKey, Below, whole, inLeft, inRight}
 use Rattle.theory.specs.Laws.{Deserted, ResolutionEmpty}
 use Rattle.theory.proofs.Tests.{by-cond, decided, or-cases, or-left, or-right}
 use Rattle.theory.proofs.Addition.{Adding, adding, added-full}
@@ -76,13 +76,13 @@ removed-peopled m (atNode {l} {r} f p q) =
     (λ _. atNode (λ h. absurd h) (removed-peopled m p) (removed-peopled m q)) (λ _. atNode f p q)
 
 module _ {K : Type 0} {m : ℕ} {k : K} where
-  newcomer-seated : {t u : Tree K} {p : Place} → Adding m k t u p → T (seated m u)
+  newcomer-seated : {t u : Tree K} {p : List Turn} → Adding m k t u p → T (seated m u)
   unfolding seated
   newcomer-seated adds.here = eqb-refl m
   newcomer-seated (adds.inLeft {l′} {r} a) = or-left (seated m l′) (seated m r) (newcomer-seated a)
   newcomer-seated (adds.inRight {l} {r′} f a) = or-right (seated m l) (seated m r′) (newcomer-seated a)
 
-  adding-peopled : {t u : Tree K} {p : Place} → Adding m k t u p → Peopled t → Peopled u
+  adding-peopled : {t u : Tree K} {p : List Turn} → Adding m k t u p → Peopled t → Peopled u
   unfolding seated
   adding-peopled adds.here p = atLeaf
   adding-peopled (adds.inLeft {l′} {r} a) (atNode f p q) =

@@ -16,7 +16,7 @@ use Rattle.theory.specs.Tree.{Tree, leaf, node, Leaf, blankLeaf, occupied, Par
 use Rattle.theory.specs.Path.{Target, Laid, sealedTo, parentLaid, levelAfter, laid}
 use Rattle.theory.specs.Held.{isUnmerged}
 use Rattle.theory.specs.Group.{Change, renew, remove, add, Commit, Group, firstOf, changeRefusal, refusal, readied, laidBy, allowed, committed, group}
-use Rattle.theory.specs.Places.{Turn, Place, left, right, leafAt, parentAt, sits, Over, down}
+use Rattle.theory.specs.Places.{Turn, left, right, leafAt, parentAt, sits, Over, down}
 use Rattle.theory.specs.Wellformed.{distinct, allSeated, someMerged, isMerging, apart, consistent, numbered, wellFormed, Merging, Consistent, WellFormed, WellFormedIs, WellFormedKept, Distinct}
 use Rattle.theory.proofs.Tests.{nor-left, nor-right, by-cond, decided, is-false, or-cases, or-left, or-right, nor, both, and-left, and-right, none-some}
 use Rattle.theory.proofs.Places.{sits-seated, seated-sits, seated-below}
@@ -204,7 +204,7 @@ or-swap true b c = refl
 or-swap false b c = or-comm c b
 
 module _ {K : Type 0} {m : ℕ} {k : K} where
-  pub adding-sound : {t u : Tree K} {p : Place} → Adding m k t u p → T (not (seated m t)) → Sound t → Sound u
+  pub adding-sound : {t u : Tree K} {p : List Turn} → Adding m k t u p → T (not (seated m t)) → Sound t → Sound u
   unfolding seated
   adding-sound adds.here h s = atLeaf
   adding-sound (adds.inLeft {c} {l} {l′} {r} a) h (atNode f g p q) =
@@ -441,7 +441,7 @@ well-formed-kept f commits n =
 
 -- THE FACTS, in the words of places.
 pub sound-sole :
-    {K : Type 0} {t : Tree K} → Sound t → (m : ℕ) (p q : Place) → T (sits m p t) → T (sits m q t) → p ≡ q
+    {K : Type 0} {t : Tree K} → Sound t → (m : ℕ) (p q : List Turn) → T (sits m p t) → T (sits m q t) → p ≡ q
 unfolding leafAt
 sound-sole atLeaf m [] [] a b = refl
 sound-sole atLeaf m [] (d ∷ q) a b = absurd b
@@ -454,14 +454,14 @@ sound-sole (atNode {l} {r} f g x y) m (right ∷ p) (left ∷ q) a b = absurd (f
 sound-sole (atNode f g x y) m (right ∷ p) (right ∷ q) a b = ap (λ w. right ∷ w) (sound-sole y m p q a b)
 
 -- one who sits below a place
-abbrev pub SitsBelow : {K : Type 0} → ℕ → Place → Tree K → Type 0
-SitsBelow w q t = (p : Place) × Over q p × T (sits w p t)
+abbrev pub SitsBelow : {K : Type 0} → ℕ → List Turn → Tree K → Type 0
+SitsBelow w q t = (p : List Turn) × Over q p × T (sits w p t)
 
-deeper-left : {K : Type 0} (c : Parent K) (l r : Tree K) (w : ℕ) (q : Place) → SitsBelow w q l → SitsBelow w (left ∷ q) (node c l r)
+deeper-left : {K : Type 0} (c : Parent K) (l r : Tree K) (w : ℕ) (q : List Turn) → SitsBelow w q l → SitsBelow w (left ∷ q) (node c l r)
 unfolding leafAt
 deeper-left c l r w q s = (left ∷ s .0, down (s .1), s .2)
 
-deeper-right : {K : Type 0} (c : Parent K) (l r : Tree K) (w : ℕ) (q : Place) → SitsBelow w q r → SitsBelow w (right ∷ q) (node c l r)
+deeper-right : {K : Type 0} (c : Parent K) (l r : Tree K) (w : ℕ) (q : List Turn) → SitsBelow w q r → SitsBelow w (right ∷ q) (node c l r)
 unfolding leafAt
 deeper-right c l r w q s = (right ∷ s .0, down (s .1), s .2)
 
@@ -487,7 +487,7 @@ top-merging (keyed j vs) l r s k un e =
     })
 
 pub sound-merging-at :
-    {K : Type 0} {t : Tree K} → Sound t → (q : Place) (k : K) (un : List ℕ) → parentAt q t ≡ Some (keyed k un) → Merging q un t
+    {K : Type 0} {t : Tree K} → Sound t → (q : List Turn) (k : K) (un : List ℕ) → parentAt q t ≡ Some (keyed k un) → Merging q un t
 unfolding parentAt
 sound-merging-at atLeaf [] k un e = absurd (none-some e)
 sound-merging-at atLeaf (d ∷ q) k un e = absurd (none-some e)
@@ -512,21 +512,21 @@ sound-facts s = record { sole = sound-sole s; merging = sound-merging-at s }
 
 -- and back: a tree with these facts is sound
 higher-left :
-    {K : Type 0} (c : Parent K) (l r : Tree K) (w : ℕ) (q : Place) {p : Place} → Over (left ∷ q) p → T (sits w p (node c l r)) →
+    {K : Type 0} (c : Parent K) (l r : Tree K) (w : ℕ) (q : List Turn) {p : List Turn} → Over (left ∷ q) p → T (sits w p (node c l r)) →
     SitsBelow w q l
 unfolding leafAt
 higher-left c l r w q (down {p} o) s = (p, o, s)
 
 higher-right :
-    {K : Type 0} (c : Parent K) (l r : Tree K) (w : ℕ) (q : Place) {p : Place} → Over (right ∷ q) p → T (sits w p (node c l r)) →
+    {K : Type 0} (c : Parent K) (l r : Tree K) (w : ℕ) (q : List Turn) {p : List Turn} → Over (right ∷ q) p → T (sits w p (node c l r)) →
     SitsBelow w q r
 unfolding leafAt
 higher-right c l r w q (down {p} o) s = (p, o, s)
 
-same-turn : {d : Turn} {p q : Place} → _≡_ {A = Place} (d ∷ p) (d ∷ q) → p ≡ q
+same-turn : {d : Turn} {p q : List Turn} → _≡_ {A = List Turn} (d ∷ p) (d ∷ q) → p ≡ q
 same-turn e = cc
 
-turned : {p q : Place} → _≡_ {A = Place} (left ∷ p) (right ∷ q) → ⊥
+turned : {p q : List Turn} → _≡_ {A = List Turn} (left ∷ p) (right ∷ q) → ⊥
 turned e = let z : _≡_ {A = ℕ} 0 1 = cc in omega arith
 
 facts-left : {K : Type 0} (c : Parent K) (l r : Tree K) → Consistent (node c l r) → Consistent l

@@ -16,20 +16,20 @@ use Rattle.theory.specs.Secrets.{Secret}
 use Rattle.theory.specs.Tree.{Tree, Leaf, blankLeaf, occupied, blankParent, isBlank, seated, full, height, isLevel, position, resolution, grown, unmergedAt, added, removed}
 use Rattle.theory.specs.Held.{held, heldAt}
 use Rattle.theory.specs.Group.{Commit, group}
-use Rattle.theory.specs.Places.{Place, left, right, leafAt, parentAt, sits, hasKey, hasUnmerged, Over, LeftOf, leavesBefore, Below}
+use Rattle.theory.specs.Places.{Turn, left, right, leafAt, parentAt, sits, hasKey, hasUnmerged, Over, LeftOf, leavesBefore, Below}
 
 -- what becomes of a tree that m is removed from
 pub record Without {K : Type 0} (m : ℕ) (t : Tree K) : Type 0 where
   -- m is seated nowhere
   pub gone : T (not (seated m (removed m t)))
   -- the leaf where m sat is blank
-  pub vacant : (p : Place) → T (sits m p t) → leafAt p (removed m t) ≡ Some blankLeaf
+  pub vacant : (p : List Turn) → T (sits m p t) → leafAt p (removed m t) ≡ Some blankLeaf
   -- every other leaf is as it was: whoever sat there still does, with its key, and nobody new
-  pub others : (p : Place) → T (not (sits m p t)) → leafAt p (removed m t) ≡ leafAt p t
+  pub others : (p : List Turn) → T (not (sits m p t)) → leafAt p (removed m t) ≡ leafAt p t
   -- every parent above m is blank
-  pub above : (p q : Place) → T (sits m p t) → Over q p → parentAt q (removed m t) ≡ Some blankParent
+  pub above : (p q : List Turn) → T (sits m p t) → Over q p → parentAt q (removed m t) ≡ Some blankParent
   -- a parent with m not seated below it is as it was
-  pub apart : (q : Place) → ((p : Place) → Over q p → T (not (sits m p t))) → parentAt q (removed m t) ≡ parentAt q t
+  pub apart : (q : List Turn) → ((p : List Turn) → Over q p → T (not (sits m p t))) → parentAt q (removed m t) ≡ parentAt q t
 
 -- a removal empties the leaf and every parent above it, and touches nothing else
 abbrev pub Removal : Type 0
@@ -37,16 +37,16 @@ Removal = (m : ℕ) (t : Tree Secret) → Without m t
 
 -- what becomes of a tree that is not full when m is added with the leaf key k
 pub record Seating {K : Type 0} (m : ℕ) (k : K) (t : Tree K) : Type 0 where
-  pub place : Place
+  pub place : List Turn
   -- the place was blank, and every leaf left of it was occupied
   pub free : leafAt place t ≡ Some blankLeaf
-  pub first : (q : Place) (x : Leaf K) → LeftOf q place → leafAt q t ≡ Some x → T (not (isBlank x))
+  pub first : (q : List Turn) (x : Leaf K) → LeftOf q place → leafAt q t ≡ Some x → T (not (isBlank x))
   -- m sits there, and every other leaf is as it was
   pub taken : leafAt place (added m k t) ≡ Some (occupied m k)
-  pub others : (q : Place) → (q ≡ place → ⊥) → leafAt q (added m k t) ≡ leafAt q t
+  pub others : (q : List Turn) → (q ≡ place → ⊥) → leafAt q (added m k t) ≡ leafAt q t
   -- m is unmerged at each keyed parent above, and every other parent is as it was
-  pub above : (q : Place) → Over q place → parentAt q (added m k t) ≡ mapped (unmergedAt m) (parentAt q t)
-  pub apart : (q : Place) → (Over q place → ⊥) → parentAt q (added m k t) ≡ parentAt q t
+  pub above : (q : List Turn) → Over q place → parentAt q (added m k t) ≡ mapped (unmergedAt m) (parentAt q t)
+  pub apart : (q : List Turn) → (Over q place → ⊥) → parentAt q (added m k t) ≡ parentAt q t
   -- so whoever is seated was seated, or is m
   pub everybody : (w : ℕ) → seated w (added m k t) ≡ (seated w t || eqb m w)
 
@@ -57,7 +57,7 @@ Addition =
     (T (not (full t)) → Seating m k t) × (T (full t) → added m k t ≡ t)
 
 -- where a newcomer is unmerged: above its leaf exactly where there was a key before it came, and nowhere else
-pub record Unmerged {K : Type 0} (m : ℕ) (k : K) (t : Tree K) (p q : Place) : Type 0 where
+pub record Unmerged {K : Type 0} (m : ℕ) (k : K) (t : Tree K) (p q : List Turn) : Type 0 where
   pub above : Over q p → hasUnmerged m (parentAt q (added m k t)) ≡ hasKey (parentAt q t)
   pub apart : (Over q p → ⊥) → hasUnmerged m (parentAt q (added m k t)) ≡ false
 
@@ -65,15 +65,15 @@ pub record Unmerged {K : Type 0} (m : ℕ) (k : K) (t : Tree K) (p q : Place) : 
 abbrev pub UnmergedSince : Type 0
 UnmergedSince =
     (m : ℕ) (k : Secret) (t : Tree Secret) →
-    T (not (full t)) → T (not (seated m t)) → ((q : Place) → T (not (hasUnmerged m (parentAt q t)))) →
-    (p q : Place) → T (sits m p (added m k t)) → Unmerged m k t p q
+    T (not (full t)) → T (not (seated m t)) → ((q : List Turn) → T (not (hasUnmerged m (parentAt q t)))) →
+    (p q : List Turn) → T (sits m p (added m k t)) → Unmerged m k t p q
 
 -- what becomes of a full tree that grows
 pub record Doubled {K : Type 0} (t : Tree K) : Type 0 where
   -- everybody keeps its place, in the left half
-  pub kept : (p : Place) → leafAt (left ∷ p) (grown t) ≡ leafAt p t
+  pub kept : (p : List Turn) → leafAt (left ∷ p) (grown t) ≡ leafAt p t
   -- nobody sits in the right half
-  pub empty : (m : ℕ) (p : Place) → T (not (sits m (right ∷ p) (grown t)))
+  pub empty : (m : ℕ) (p : List Turn) → T (not (sits m (right ∷ p) (grown t)))
   -- everybody keeps its leaf, counted from the left
   pub same : (m : ℕ) → position m (grown t) ≡ position m t
 
@@ -101,7 +101,7 @@ LevelKept =
 -- where a position lies
 pub record Positioned {K : Type 0} (m : ℕ) (t : Tree K) : Type 0 where
   -- m sits at the leaf with as many leaves left of it
-  pub there : (i : ℕ) → position m t ≡ Some i → (p : Place) × T (sits m p t) × (leavesBefore p t ≡ i)
+  pub there : (i : ℕ) → position m t ≡ Some i → (p : List Turn) × T (sits m p t) × (leavesBefore p t ≡ i)
   -- there is none exactly if m isn't seated
   pub none : (position m t ≡ None) ↔ T (not (seated m t))
 

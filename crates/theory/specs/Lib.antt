@@ -4,7 +4,6 @@ pub mod Tree
 pub mod Path
 pub mod Held
 pub mod Group
-pub mod Worked
 pub mod Places
 pub mod Laws
 pub mod Wellformed
@@ -12,3 +11,6 @@ pub mod Natural
 pub mod Follow
 pub mod Promise
 pub mod Known
+pub mod Opened
+pub mod Verdicts
+pub mod Worked

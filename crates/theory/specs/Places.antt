@@ -1,5 +1,5 @@
 -- Places in a tree: which way down from the top.
--- `Turn`, `Place`; `leafAt`, `parentAt`: what lies at a place; `sits`, `hasKey`, `hasUnmerged`: what is asked of it;
+-- `Turn`: a place is a list of them; `leafAt`, `parentAt`: what lies at a place; `sits`, `hasKey`, `hasUnmerged`: what is asked of it;
 -- `Over`, `LeftOf`: how two places lie to each other; `leavesBefore`: how many leaves lie left of a place; `Below`: a part of a tree.
 -- Assumes nothing.
 use mathlib.Core.Bool.{Bool, true, false}
@@ -10,17 +10,13 @@ use Rattle.std.specs.declared.option.Option.the-variants.{Some, None}
 use Rattle.theory.specs.Tree.{Tree, leaf, node, Leaf, Parent, blankParent, keyed, isAt, leaves}
 use Rattle.theory.specs.Held.{isUnmerged}
 
--- one step down
+-- one step down; a place is the way down from the top, a list of turns
 pub data Turn : Type 0 where
   left : Turn
   right : Turn
 
--- the way down from the top
-abbrev pub Place : Type 0
-Place = List Turn
-
 -- the leaf at a place, if a leaf lies there
-unfoldable pub leafAt : {K : Type 0} → Place → Tree K → Option (Leaf K)
+unfoldable pub leafAt : {K : Type 0} → List Turn → Tree K → Option (Leaf K)
 leafAt [] (leaf x) = Some x
 leafAt [] (node p l r) = None
 leafAt (d ∷ w) (leaf x) = None
@@ -28,7 +24,7 @@ leafAt (left ∷ w) (node p l r) = leafAt w l
 leafAt (right ∷ w) (node p l r) = leafAt w r
 
 -- the parent at a place, if a parent lies there
-unfoldable pub parentAt : {K : Type 0} → Place → Tree K → Option (Parent K)
+unfoldable pub parentAt : {K : Type 0} → List Turn → Tree K → Option (Parent K)
 parentAt [] (leaf x) = None
 parentAt [] (node p l r) = Some p
 parentAt (d ∷ w) (leaf x) = None
@@ -41,7 +37,7 @@ isThere m None = false
 isThere m (Some x) = isAt m x
 
 -- does m sit at this place
-abbrev pub sits : {K : Type 0} → ℕ → Place → Tree K → Bool
+abbrev pub sits : {K : Type 0} → ℕ → List Turn → Tree K → Bool
 sits m p t = isThere m (leafAt p t)
 
 -- is there a parent with a key
@@ -57,17 +53,17 @@ hasUnmerged m (Some blankParent) = false
 hasUnmerged m (Some (keyed k un)) = isUnmerged m un
 
 -- what lies at the first place lies above what lies at the second: the first way is the beginning of the second
-pub data Over : Place → Place → Type 0 where
-  top : {d : Turn} {p : Place} → Over [] (d ∷ p)
-  down : {d : Turn} {q p : Place} → Over q p → Over (d ∷ q) (d ∷ p)
+pub data Over : List Turn → List Turn → Type 0 where
+  top : {d : Turn} {p : List Turn} → Over [] (d ∷ p)
+  down : {d : Turn} {q p : List Turn} → Over q p → Over (d ∷ q) (d ∷ p)
 
 -- the first place lies left of the second: where the ways part, the first turns left
-pub data LeftOf : Place → Place → Type 0 where
-  parts : {p q : Place} → LeftOf (left ∷ p) (right ∷ q)
-  after : {d : Turn} {p q : Place} → LeftOf p q → LeftOf (d ∷ p) (d ∷ q)
+pub data LeftOf : List Turn → List Turn → Type 0 where
+  parts : {p q : List Turn} → LeftOf (left ∷ p) (right ∷ q)
+  after : {d : Turn} {p q : List Turn} → LeftOf p q → LeftOf (d ∷ p) (d ∷ q)
 
 -- how many leaves lie left of a place
-unfoldable pub leavesBefore : {K : Type 0} → Place → Tree K → ℕ
+unfoldable pub leavesBefore : {K : Type 0} → List Turn → Tree K → ℕ
 leavesBefore [] t = 0
 leavesBefore (d ∷ w) (leaf x) = 0
 leavesBefore (left ∷ w) (node p l r) = leavesBefore w l

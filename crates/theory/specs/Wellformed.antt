@@ -14,7 +14,7 @@ use Rattle.theory.specs.Secrets.{Secret}
 use Rattle.theory.specs.Tree.{Tree, leaf, node, Leaf, blankLeaf, occupied, Parent, blankParent, keyed, seated}
 use Rattle.theory.specs.Held.{isUnmerged}
 use Rattle.theory.specs.Group.{Commit, group}
-use Rattle.theory.specs.Places.{Place, parentAt, sits, Over}
+use Rattle.theory.specs.Places.{Turn, parentAt, sits, Over}
 
 -- THE TEST.
 -- nobody is named twice
@@ -72,16 +72,16 @@ wellFormed t = numbered t && consistent t
 
 -- THE FACTS.
 -- of the unmerged of the keyed parent at the place q
-pub record Merging {K : Type 0} (q : Place) (un : List ℕ) (t : Tree K) : Type 0 where
+pub record Merging {K : Type 0} (q : List Turn) (un : List ℕ) (t : Tree K) : Type 0 where
   pub once : T (distinct un)
-  pub below : (w : ℕ) → T (isUnmerged w un) → (p : Place) × Over q p × T (sits w p t)
-  pub somebody : (w : ℕ) × T (not (isUnmerged w un)) × ((p : Place) × Over q p × T (sits w p t))
+  pub below : (w : ℕ) → T (isUnmerged w un) → (p : List Turn) × Over q p × T (sits w p t)
+  pub somebody : (w : ℕ) × T (not (isUnmerged w un)) × ((p : List Turn) × Over q p × T (sits w p t))
 
 pub record Consistent {K : Type 0} (t : Tree K) : Type 0 where
   -- every member sits at one place at most
-  pub sole : (m : ℕ) (p q : Place) → T (sits m p t) → T (sits m q t) → p ≡ q
+  pub sole : (m : ℕ) (p q : List Turn) → T (sits m p t) → T (sits m q t) → p ≡ q
   -- the unmerged of every keyed parent are distinct, sit below it, and somebody else does too
-  pub merging : (q : Place) (k : K) (un : List ℕ) → parentAt q t ≡ Some (keyed k un) → Merging q un t
+  pub merging : (q : List Turn) (k : K) (un : List ℕ) → parentAt q t ≡ Some (keyed k un) → Merging q un t
 
 pub record WellFormed {K : Type 0} (t : Tree K) : Type 0 where
   pub numbers : (m : ℕ) → T (seated m t) → m < nobody
@@ -101,5 +101,5 @@ WellFormedKept =
 -- in every tree of a run every member sits at one place at most
 abbrev pub Distinct : Type 0
 Distinct =
-    (f : ℕ) (commits : ℕ → Commit) (n m : ℕ) (p q : Place) →
+    (f : ℕ) (commits : ℕ → Commit) (n m : ℕ) (p q : List Turn) →
     T (sits m p (group f commits n .tree)) → T (sits m q (group f commits n .tree)) → p ≡ q

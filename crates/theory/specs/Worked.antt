@@ -1,5 +1,6 @@
--- Worked cases: small groups whose trees and counts were worked out by hand, held against the definitions.
--- `Cell`, `cells`: a tree as it is printed, in the order of its nodes; `Case`, `outcome`, `rows`: the table; `WorkedCases`: the definitions give each row.
+-- Worked cases A to I: small groups whose trees, counts and verdicts were worked out by hand, held against the definitions.
+-- `Cell`, `cells`: a tree as it is printed, in the order of its nodes; `Case`, `outcome`, `rows`: what comes of a commit;
+-- `VerdictRow`, `verdictRows`: what is said of each epoch where handsets were read out; `WorkedCases`: the definitions give each row of both.
 -- Assumes nothing.
 use mathlib.Core.Path.{_≡_}
 use mathlib.Core.List.{List, [], _∷_, _++_}
@@ -9,6 +10,8 @@ use Rattle.theory.specs.Secrets.{Secret}
 use Rattle.theory.specs.Tree.{Tree, leaf, node, Leaf, blankLeaf, occupied, Parent, blankParent, keyed, height}
 use Rattle.theory.specs.Path.{Laid}
 use Rattle.theory.specs.Group.{Change, renew, remove, add, Commit, Group, group, listed, message, pathAt}
+use Rattle.theory.specs.Promise.{Exposure}
+use Rattle.theory.specs.Verdicts.{Verdict, shutUnknown, openUnknown, openKnown, verdicts}
 
 -- one node as it is printed
 pub data Cell : Type 0 where
@@ -68,6 +71,7 @@ shift =
 abbrev pub reseated : List Commit
 reseated = by 0 (add 1) ∷ by 0 (add 2) ∷ by 0 (add 3) ∷ by 0 (add 4) ∷ by 0 (remove 1) ∷ by 4 (add 5) ∷ []
 
+-- cases A to F, E having two commits, and I
 abbrev pub rows : List Row
 rows =
     row shift 0 1 1 2 (seat 0 ∷ star [] ∷ seat 1 ∷ [])
@@ -81,11 +85,41 @@ rows =
     (seat 0 ∷ blank ∷ seat 5 ∷ star (5 ∷ []) ∷ seat 2 ∷ blank ∷ seat 3 ∷ star [] ∷ seat 4 ∷ blank ∷ blank ∷ blank ∷ blank ∷ blank ∷ blank ∷ [])
     ∷ []
 
+-- a script that founder 0 begins, the handsets read out, and what is said of each epoch from 0
+pub record VerdictRow : Type 0 where
+  pub script : List Commit
+  pub exposures : List Exposure
+  pub says : List Verdict
+
+abbrev pub readAfter : ℕ → ℕ → Exposure
+readAfter n m = record { who = m; when = n }
+
+-- case G: 2 is read after the second commit, and makes the third; case H: 0 is read besides, after the fourth
+abbrev pub verdictRows : List VerdictRow
+verdictRows =
+    record {
+      script = shift;
+      exposures = readAfter 2 2 ∷ [];
+      says =
+          shutUnknown ∷ shutUnknown ∷ openKnown ∷ shutUnknown ∷ shutUnknown ∷ shutUnknown ∷ shutUnknown ∷ shutUnknown ∷ [];
+    }
+    ∷ record {
+      script = shift;
+      exposures = readAfter 2 2 ∷ readAfter 4 0 ∷ [];
+      says = shutUnknown ∷ shutUnknown ∷ openKnown ∷ openUnknown ∷ openKnown ∷ openKnown ∷ shutUnknown ∷ shutUnknown ∷ [];
+    }
+    ∷ []
+
 -- every row of a table is what the definitions give
 abbrev pub Given : List Row → Type 0
 Given [] = Unit {0}
 Given (r ∷ rs) = (outcome (r .script) (r .commit) ≡ r .gives) × Given rs
 
+-- every row of verdicts is what the definitions say, of as many epochs as the script has and the founder's
+abbrev pub Said : List VerdictRow → Type 0
+Said [] = Unit {0}
+Said (r ∷ rs) = (verdicts (r .script) (r .exposures) (suc (length (r .script))) ≡ r .says) × Said rs
+
 -- the worked cases are what the definitions give
 abbrev pub WorkedCases : Type 0
-WorkedCases = Given rows
+WorkedCases = Given rows × Said verdictRows

@@ -23,6 +23,7 @@ pub use laws::resolution_empty_holds;
 pub use laws::unmerged_since_holds;
 pub use promise::heals_holds;
 pub use promise::main_holds;
+pub use promise::open_is_holds;
 pub use promise::own_fresh_holds;
 pub use promise::past_holds;
 pub use promise::reaches_holds;

@@ -1,4 +1,5 @@
 // What is promised of whole runs. Each function here has one promise as its contract.
+ghost use Rattle.theory.specs.Opened.{OpenIs};
 ghost use Rattle.theory.specs.Promise.{Sole, OwnFresh, Main, Past, Heals, Reaches};
 
 // Nobody sits twice in a tree of a run.
@@ -39,6 +40,13 @@ pub fn heals_holds() -> u8
 // In every part of every tree of a run, those seated hold one of the keys of the resolution, and nobody else holds any.
 pub fn reaches_holds() -> u8
     ensures { λ _. ⌜ Reaches ⌝ }
+{
+    0
+}
+
+// What is computed by recursion on the commits is where a talk secret lies open.
+pub fn open_is_holds() -> u8
+    ensures { λ _. ⌜ OpenIs ⌝ }
 {
     0
 }
