@@ -1,5 +1,5 @@
 -- What carrying out a commit answers.
--- `Asked`, `Ready`: the tree before the path; `welcomes`: how many boxes are for a newcomer's init key; `Applies`: the tree after, and what the message holds; `MessageCounts`, `Counting`: the counts alone.
+-- `Crowded`, `Asked`, `Stopped`, `Ready`: the tree before the path, or why there is none; `welcomes`: how many boxes are for a newcomer's init key; `Applies`: the tree after, and what the message holds; `MessageCounts`, `Counting`: the counts alone.
 -- Assumes nothing.
 use mathlib.Core.Path.{_≡_}
 use mathlib.Core.Bool.{true}
@@ -38,6 +38,7 @@ Crowded renew t tree-error.OutOfMemory = Unit {0}
 Crowded (remove m) t tree-error.OutOfMemory = Unit {0}
 Crowded (add m) t tree-error.OutOfMemory = Unit {0}
 
+-- the tree with what is asked
 abbrev pub Asked : Change → PublicKey → Tree PublicKey → Result RatchetTree TreeError → Type 0
 Asked c fresh t (Ok u) = theTree u ≡ readied c fresh t
 Asked c fresh t (Err e) = Crowded c t e
@@ -47,10 +48,12 @@ abbrev pub Stopped : ℕ → Commit → Tree PublicKey → CommitError → Type 
 Stopped e c t (commit-error.Refused x) = refusal e c t ≡ Some (numberOf x)
 Stopped e c t commit-error.OutOfMemory = refusal e c t ≡ None
 
+-- the tree that the path is laid on, or why there is none
 abbrev pub Ready : ℕ → Commit → PublicKey → Tree PublicKey → Result RatchetTree CommitError → Type 0
 Ready e c fresh t (Ok u) = (refusal e c t ≡ None) × (theTree u ≡ readied (c .change) fresh t)
 Ready e c fresh t (Err x) = Stopped e c t x
 
+-- how many boxes are for a newcomer's init key
 abbrev pub welcomes : Change → ℕ
 welcomes renew = 0
 welcomes (remove m) = 0
@@ -64,6 +67,7 @@ pub record Carried (e : ℕ) (c : Commit) (t u : Tree PublicKey) (x : Laid Publi
   pub targets : map targetOf (vec-items (a .targets)) ≡ x .targets
   pub boxes : a .boxes ≡ length (x .targets) + welcomes (c .change)
 
+-- the tree before, the tree after, and what the message holds; or the same tree, and why
 abbrev pub Applies : ℕ → Commit → CommitKeys → RatchetTree → RatchetTree → Result Applied CommitError → Type 0
 Applies e c k t u (Ok a) = Carried e c (theTree t) (theTree u) (laidBy c (k .newcomer) (k .path .leaf) (keyFrom (k .path)) (theTree t)) a
 Applies e c k t u (Err x) = (u ≡ t) × Stopped e c (theTree t) x

@@ -1,4 +1,5 @@
 -- The code's commits as those of the theory.
+-- `changeOf`, `commitOf`.
 -- Assumes nothing.
 use Rattle.theory.specs.Group as theory
 use Rattle.commits.specs.declared.change.Change as change

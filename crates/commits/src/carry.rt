@@ -93,6 +93,8 @@ fn welcome_count(change: Change) -> usize
     }
 }
 
+// Carries a commit out: the tree after it and what its message holds; or why not, and then the tree is as it was.
+// Lays as many of the node keys as the path has levels; past the last one the leaf key stands in.
 pub fn apply(
     heap: Global,
     tree: &mut RatchetTree,
@@ -128,7 +130,7 @@ pub fn message_counts(readied: &RatchetTree, commit: Commit) -> Counts
     }
 }
 
-// The same for a commit that is not carried out.
+// The same from the tree before the commit: the counts, or why it is not carried out. Works on a copy.
 pub fn commit_counts(
     heap: Global,
     tree: &RatchetTree,

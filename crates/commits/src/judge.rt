@@ -36,6 +36,7 @@ fn addition_verdict(tree: &RatchetTree, committer: MemberId, member: MemberId) -
     None
 }
 
+// Why the commit is refused, if it is.
 pub fn verdict(tree: &RatchetTree, epoch: Epoch, commit: Commit) -> Option<Refusal>
     ensures number { λ r. ⌜ mapped numberOf r ≡ refusal (epoch .0) (commitOf commit) (theTree (now (tree .entry))) ⌝ }
 {

@@ -1,4 +1,4 @@
-// Why something is turned away, by its number. Nothing changes then, and the answer has the number only.
+// Why something is refused, by its number. Nothing changes then, and the answer has the number only.
 ghost use mathlib.Core.Path.{_≡_};
 ghost use Rattle.commits.specs.Refusals.{numberOf};
 
@@ -25,6 +25,7 @@ pub enum Refusal {
 }
 
 impl Refusal {
+    // The number that is answered.
     pub fn number(self) -> u8
         ensures value { λ r. ⌜ r ≡ numberOf self ⌝ }
     {

@@ -20,20 +20,21 @@ use Rattle.scripts.specs.Line.{InRange, MemberInRange, founderBytes, lineBytes}
 use Rattle.scripts.specs.Lines.{linesOf, maxLines}
 use Rattle.playback.specs.Report.{refusalBytes, reportBytes}
 
+-- what the station knows of the group
 pub record State : Type 0 where
   pub tree : Tree PublicKey
   pub epoch : ℕ
 
 -- the station has no vault: one half stands in for every key, and nothing that is printed depends on it
-abbrev pub halfless : PublicKey
-halfless = record { 0 = replicate 32 0 }
+abbrev pub standIn : PublicKey
+standIn = record { 0 = replicate 32 0 }
 
 abbrev pub founding : ℕ → State
-founding m = record { tree = leaf (occupied m halfless); epoch = 0 }
+founding m = record { tree = leaf (occupied m standIn); epoch = 0 }
 
 -- the path of a commit, and the state after it
 abbrev pub pathOf : Commit → State → Laid PublicKey
-pathOf c s = laidBy (commitOf c) halfless halfless (λ _. halfless) (s .tree)
+pathOf c s = laidBy (commitOf c) standIn standIn (λ _. standIn) (s .tree)
 
 abbrev pub after : Commit → State → State
 after c s = record { tree = pathOf c s .tree; epoch = suc (s .epoch) }

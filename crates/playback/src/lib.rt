@@ -3,6 +3,4 @@ pub mod laws;
 mod report;
 mod script;
 
-pub use report::write_refusal;
-pub use report::write_report;
 pub use script::play;

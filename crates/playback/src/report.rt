@@ -38,7 +38,7 @@ fn write_before(out: &mut Vec<u8>, number: u64, byte: u8) -> Result<(), AllocErr
 }
 
 // Appends the refusal's number, alone on its line.
-pub fn write_refusal(out: &mut Vec<u8>, refusal: Refusal) -> Result<(), AllocError>
+pub(crate) fn write_refusal(out: &mut Vec<u8>, refusal: Refusal) -> Result<(), AllocError>
     ensures bytes { λ r. ⌜ Appends (vec-items (now (out .entry))) (refusalBytes (numberOf refusal)) (vec-items (now (out .exit))) r ⌝ }
 {
     write_before(out, u64::from(refusal.number()), b'\n')
@@ -122,7 +122,7 @@ fn write_counts(
 }
 
 // Appends a commit's line: the epoch, how many boxes and node keys the message has, and the tree after it.
-pub fn write_report(
+pub(crate) fn write_report(
     out: &mut Vec<u8>,
     epoch: Epoch,
     boxes: usize,

@@ -26,7 +26,7 @@ use std::alloc::AllocError;
 use std::alloc::Global;
 
 // A station has no vault: this half stands in for every key.
-const HALFLESS: PublicKey = PublicKey([0; 32]);
+const STAND_IN: PublicKey = PublicKey([0; 32]);
 
 #[derive(Drop)]
 pub struct Station {
@@ -47,9 +47,9 @@ fn answer(
         return write_refusal(out, Refusal::Malformed);
     };
     let keys = CommitKeys {
-        newcomer: HALFLESS,
+        newcomer: STAND_IN,
         path: PathKeys {
-            leaf: HALFLESS,
+            leaf: STAND_IN,
             nodes: &[],
         },
     };
@@ -112,7 +112,7 @@ pub fn play(heap: Global, input: &[u8]) -> Result<Vec<u8>, AllocError>
     if founder.0 == NOBODY {
         return refused(heap, Refusal::BadTree);
     }
-    let tree = RatchetTree::founded(heap, founder, HALFLESS)?;
+    let tree = RatchetTree::founded(heap, founder, STAND_IN)?;
     let mut station = Station {
         tree,
         epoch: Epoch(0),

@@ -20,6 +20,7 @@ abbrev pub Refused : Tree PublicKey → TreeError → Type 0
 Refused t NoRoom = (full t ≡ true) × (height t ≡ maxDepth)
 Refused t OutOfMemory = Unit {0}
 
+-- a copy with a blank leaf, or why there is none
 abbrev pub Grown : RatchetTree → Result RatchetTree TreeError → Type 0
 Grown t (Ok u) = theTree u ≡ grown (theTree t)
 Grown t (Err e) = Refused (theTree t) e

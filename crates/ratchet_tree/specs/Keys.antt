@@ -16,5 +16,6 @@ use Rattle.ratchet_tree.specs.declared.member.PublicKey.{PublicKey}
 pub record Appends {X T E : Type 0} (before more after : List X) (r : Result T E) : Type 0 where
   pub items : isOk r ≡ true → after ≡ before ++ more
 
+-- what was lent is the key and the unmerged members of the parent
 abbrev pub IsKeyed : Keyed → Parent PublicKey → Type 0
 IsKeyed k p = p ≡ keyed (k .key) (numbers (now (k .unmerged)))

@@ -12,6 +12,7 @@ use Rattle.ratchet_tree.specs.declared.part.Part.{Part}
 use Rattle.ratchet_tree.specs.declared.split.Split.{Split}
 use Rattle.ratchet_tree.specs.declared.split.Split.the-variants as split
 
+-- the tree that the lent nodes stand for
 abbrev pub partTree : Part → Tree PublicKey
 partTree p = treeOf (p .height) (now (p .nodes))
 

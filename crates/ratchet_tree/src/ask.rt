@@ -43,6 +43,7 @@ impl Node {
 }
 
 impl<'a> Part<'a> {
+    // Does the member sit at one of the leaves?
     pub fn is_seated(self, member: MemberId) -> bool
         ensures { λ r. ⌜ r ≡ seated (member .0) (partTree (self .entry)) ⌝ }
     {
@@ -62,6 +63,7 @@ impl<'a> Part<'a> {
         }
     }
 
+    // How many leaves are occupied.
     pub fn member_count(self) -> usize
         ensures { λ r. ⌜ r ≡ members (partTree (self .entry)) ⌝ }
     {

@@ -73,6 +73,7 @@ pub(crate) fn double(nodes: &mut Vec<Node>) -> Result<(), AllocError>
 }
 
 impl RatchetTree {
+    // The same tree, in memory of its own.
     pub fn copy(&self, heap: Global) -> Result<RatchetTree, AllocError>
         ensures { λ r. ⌜ made r (λ t. theTree t ≡ theTree (now (self .entry))) ⌝ }
     {

@@ -42,6 +42,7 @@ fn remove_in(nodes: &mut [Node], height: usize, member: MemberId)
 }
 
 impl RatchetTree {
+    // Blanks the member's leaf and every parent above it.
     pub fn remove(&mut self, member: MemberId)
         ensures { λ _. ⌜ theTree (now (self .exit)) ≡ removed (member .0) (theTree (now (self .entry))) ⌝ }
     {

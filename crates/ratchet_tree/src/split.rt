@@ -14,6 +14,7 @@ pub enum Split<'a> {
 }
 
 impl<'a> Part<'a> {
+    // The part's leaf, or its halves and the node between them.
     pub fn split(self) -> Split<'a>
         ensures { λ r. ⌜ Shows (self .entry) r ⌝ }
     {
