@@ -1,15 +1,20 @@
--- What holds of the lines that are printed.
+-- What holds of the lines that are printed, and of plays.
 -- `CellInRange c`: the numbers of a printed node are of 16 bits; `NodesDiffer`: printed nodes tell the nodes;
--- `ReportsDiffer`, by `Same`: a commit's line tells its numbers and the nodes.
+-- `ReportsDiffer`, by `Same`: a commit's line tells its numbers and the nodes;
+-- `PrintedOnce`: an input has one output; `StepIsRule`, `IsRun`: what is played and printed is what the rules give.
 -- Assumes nothing.
 use Prim.Native.Nat.{ℕ, _^_, _<_}
 use mathlib.Core.List.{List}
 use mathlib.Core.Path.{_≡_}
 use Rattle.std.specs.shelf.Lists.{All}
+use Rattle.theory.specs.Group.{Group}
 use Rattle.theory.specs.Tree.{Tree}
 use Rattle.theory.specs.Worked.{Cell, blank, seat, star, cells}
 use Rattle.ratchet_tree.specs.declared.member.PublicKey.{PublicKey}
+use Rattle.commits.specs.declared.change.Commit.{Commit}
+use Rattle.playback.specs.Play.{State, founding, Plays, Printed}
 use Rattle.playback.specs.Report.{nodesBytes, reportBytes}
+use Rattle.playback.specs.Runs.{StepOf, Run}
 
 -- the numbers of a printed node are of 16 bits
 abbrev pub CellInRange : Cell → Type 0
@@ -48,3 +53,15 @@ pub record Same (r s : Report) : Type 0 where
 -- lines that are alike say the same
 abbrev pub ReportsDiffer : Type 0
 ReportsDiffer = (r s : Report) → InRange r → InRange s → lineOf r ≡ lineOf s → Same r s
+
+-- what is printed for an input is determined
+abbrev pub PrintedOnce : Type 0
+PrintedOnce = (input a b : List ℕ) → Printed input a → Printed input b → a ≡ b
+
+-- one commit does at the station what it does by the rules
+abbrev pub StepIsRule : Type 0
+StepIsRule = (c : Commit) (g : Group) → StepOf c g
+
+-- a play is a run of the rules: of the commits that its lines ask for, in order, refused ones too
+abbrev pub IsRun : Type 0
+IsRun = (m : ℕ) (lines : List (List ℕ)) (end : State) (bytes : List ℕ) → Plays (founding m) lines end bytes → Run m lines end bytes

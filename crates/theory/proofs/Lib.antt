@@ -10,6 +10,7 @@ pub mod Level
 pub mod Position
 pub mod Natural
 pub mod Wellformed
+pub mod Laying
 pub mod Follows
 pub mod Counting
 pub mod Own

@@ -1,5 +1,6 @@
 -- The laws of trees and of runs, in the words of their subject: who sits where, and what becomes of each leaf and parent.
 -- `Removal`, `Addition`, `UnmergedSince`, `Growth`: what one change does, by the records `Without`, `Seating`, `Unmerged`, `Doubled`;
+-- `PathLaid`: what a path does, by `OverMaker` and `AbovePath`;
 -- `ResolutionEmpty`, `LevelKept`: what holds of every tree of a run; `PositionIs`, by `Positioned`: where a position lies;
 -- `HeldByHeight`: what a member holds, height by height.
 -- Assumes nothing.
@@ -7,16 +8,17 @@ use mathlib.Core.Path.{_≡_}
 use mathlib.Core.Bool.{false, not, _||_}
 use mathlib.Core.List.{List, [], _∷_, _++_}
 use mathlib.Core.Logic.{_↔_}
-use Prim.Native.Nat.{ℕ, zero, suc, _≤_}
+use Prim.Native.Nat.{ℕ, zero, suc, _≤_, _<_}
 use lib.Dec.{T, eqb}
 use Rattle.std.specs.Options.{mapped}
 use Rattle.std.specs.declared.option.Option.the-variants.{Some, None}
 use Rattle.theory.specs.Limits.{maxDepth}
 use Rattle.theory.specs.Secrets.{Secret}
-use Rattle.theory.specs.Tree.{Tree, Leaf, blankLeaf, occupied, blankParent, isBlank, seated, full, height, isLevel, position, resolution, grown, unmergedAt, added, removed}
+use Rattle.theory.specs.Tree.{Tree, Leaf, blankLeaf, occupied, blankParent, keyed, isBlank, seated, full, height, isLevel, position, resolution, grown, unmergedAt, added, removed}
+use Rattle.theory.specs.Path.{Laid, laid}
 use Rattle.theory.specs.Held.{held, heldAt}
 use Rattle.theory.specs.Group.{Commit, group}
-use Rattle.theory.specs.Places.{Turn, left, right, leafAt, parentAt, sits, hasKey, hasUnmerged, Over, LeftOf, leavesBefore, Below}
+use Rattle.theory.specs.Places.{Turn, left, right, leafAt, parentAt, sits, hasKey, hasUnmerged, Over, LeftOf, leavesBefore, Below, Beside}
 
 -- what becomes of a tree that m is removed from
 pub record Without {K : Type 0} (m : ℕ) (t : Tree K) : Type 0 where
@@ -74,12 +76,44 @@ pub record Doubled {K : Type 0} (t : Tree K) : Type 0 where
   pub kept : (p : List Turn) → leafAt (left ∷ p) (grown t) ≡ leafAt p t
   -- nobody sits in the right half
   pub empty : (m : ℕ) (p : List Turn) → T (not (sits m (right ∷ p) (grown t)))
+  -- the old tree's parents are as they were, the new top is blank, and no parent of the right half has a key
+  pub parents : (p : List Turn) → parentAt (left ∷ p) (grown t) ≡ parentAt p t
+  pub top : parentAt [] (grown t) ≡ Some blankParent
+  pub bare : (p : List Turn) → T (not (hasKey (parentAt (right ∷ p) (grown t))))
   -- everybody keeps its leaf, counted from the left
   pub same : (m : ℕ) → position m (grown t) ≡ position m t
 
 -- growing keeps everybody's place, and changes nothing unless the tree is full
 abbrev pub Growth : Type 0
 Growth = (t : Tree Secret) → (T (full t) → Doubled t) × (T (not (full t)) → grown t ≡ t)
+
+-- what becomes of the parent at q, above p, where a path from p makes u of t with n node keys
+pub record AbovePath {K : Type 0} (keys : ℕ → K) (t u : Tree K) (n : ℕ) (p q : List Turn) : Type 0 where
+  -- the other half under it
+  pub half : Tree K
+  pub beside : Beside half q p t
+  -- it is blank where the other half has nobody to seal to, and elsewhere has a new key with nobody unmerged
+  pub none : resolution half ≡ [] → parentAt q u ≡ Some blankParent
+  pub some : (resolution half ≡ [] → ⊥) → (i : ℕ) × (i < n) × (parentAt q u ≡ Some (keyed (keys i) []))
+
+-- what becomes of a tree over which m, sitting at p, lays its path
+pub record OverMaker {K : Type 0} (m : ℕ) (own : K) (keys : ℕ → K) (t : Tree K) (p : List Turn) : Type 0 where
+  -- m's leaf has the new leaf key, and every other leaf is as it was
+  pub renewed : leafAt p (laid m own keys t .tree) ≡ Some (occupied m own)
+  pub others : (q : List Turn) → (q ≡ p → ⊥) → leafAt q (laid m own keys t .tree) ≡ leafAt q t
+  -- each parent above m is blank or newly keyed, and every other parent is as it was
+  pub above : (q : List Turn) → Over q p → AbovePath keys t (laid m own keys t .tree) (laid m own keys t .levels) p q
+  pub apart : (q : List Turn) → (Over q p → ⊥) → parentAt q (laid m own keys t .tree) ≡ parentAt q t
+
+-- m sits at p and nowhere else
+abbrev pub SitsOnlyAt : {K : Type 0} → ℕ → List Turn → Tree K → Type 0
+SitsOnlyAt m p t = T (sits m p t) × ((q : List Turn) → T (sits m q t) → q ≡ p)
+
+-- a path renews its maker's leaf and the parents above it, and touches nothing else
+abbrev pub PathLaid : Type 0
+PathLaid =
+    (m : ℕ) (own : Secret) (keys : ℕ → Secret) (t : Tree Secret) (p : List Turn) →
+    SitsOnlyAt m p t → OverMaker m own keys t p
 
 -- nobody is seated in a tree
 abbrev pub Deserted : {K : Type 0} → Tree K → Type 0

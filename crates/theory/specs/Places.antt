@@ -1,6 +1,7 @@
 -- Places in a tree: which way down from the top.
 -- `Turn`: a place is a list of them; `leafAt`, `parentAt`: what lies at a place; `sits`, `hasKey`, `hasUnmerged`: what is asked of it;
--- `Over`, `LeftOf`: how two places lie to each other; `leavesBefore`: how many leaves lie left of a place; `Below`: a part of a tree.
+-- `Over`, `LeftOf`: how two places lie to each other; `leavesBefore`: how many leaves lie left of a place; `Below`: a part of a tree;
+-- `Beside`: the half of a part that a place doesn't lie in.
 -- Assumes nothing.
 use mathlib.Core.Bool.{Bool, true, false}
 use mathlib.Core.List.{List, [], _∷_}
@@ -74,3 +75,12 @@ pub data Below {K : Type 0} : Tree K → Tree K → Type 0 where
   whole : {t : Tree K} → Below t t
   inLeft : {t l r : Tree K} {p : Parent K} → Below t l → Below t (node p l r)
   inRight : {t l r : Tree K} {p : Parent K} → Below t r → Below t (node p l r)
+
+-- the half, of the part of the tree under place q, that place p below q doesn't lie in
+pub data Beside {K : Type 0} : Tree K → List Turn → List Turn → Tree K → Type 0 where
+  rightHalf : {c : Parent K} {l r : Tree K} {p : List Turn} → Beside r [] (left ∷ p) (node c l r)
+  leftHalf : {c : Parent K} {l r : Tree K} {p : List Turn} → Beside l [] (right ∷ p) (node c l r)
+  underLeft :
+      {c : Parent K} {s l r : Tree K} {q p : List Turn} → Beside s q p l → Beside s (left ∷ q) (left ∷ p) (node c l r)
+  underRight :
+      {c : Parent K} {s l r : Tree K} {q p : List Turn} → Beside s q p r → Beside s (right ∷ q) (right ∷ p) (node c l r)

@@ -3,10 +3,10 @@
 -- `VerdictRow`, `verdictRows`: what is said of each epoch where handsets were read out; `WorkedCases`: the definitions give each row of both.
 -- Assumes nothing.
 use mathlib.Core.Path.{_≡_}
-use mathlib.Core.List.{List, [], _∷_, _++_}
+use mathlib.Core.List.{List, [], _∷_, _++_, map}
 use Prim.Native.Nat.{ℕ, zero, suc, _+_}
 use lib.ListN.{length}
-use Rattle.theory.specs.Secrets.{Secret}
+use Rattle.theory.specs.Secrets.{Secret, drawn, leafKey, pathSecret, newcomerKey, initKey, lock, Box}
 use Rattle.theory.specs.Tree.{Tree, leaf, node, Leaf, blankLeaf, occupied, Parent, blankParent, keyed, height}
 use Rattle.theory.specs.Path.{Laid}
 use Rattle.theory.specs.Group.{Change, renew, remove, add, Commit, Group, group, listed, message, pathAt}
@@ -32,11 +32,12 @@ unfoldable pub cells : {K : Type 0} → Tree K → List Cell
 cells (leaf x) = leafCell x ∷ []
 cells (node p l r) = cells l ++ (parentCell p ∷ cells r)
 
--- one commit of a script that founder 0 begins, and what comes of it: the depth, node keys and boxes, and the nodes
+-- one commit of a script that founder 0 begins, and what comes of it: the depth, node keys and boxes, the keys that the boxes are sealed to, and the nodes
 pub record Case : Type 0 where
   pub depth : ℕ
   pub keys : ℕ
   pub boxes : ℕ
+  pub to : List Secret
   pub nodes : List Cell
 
 -- what the definitions give for commit n of a script
@@ -48,6 +49,7 @@ outcome script n =
       depth = height (h .tree);
       keys = pathAt (listed script n) (suc (g .epoch)) (g .tree) .levels;
       boxes = length (message 0 (listed script) n);
+      to = map (λ b. b .key) (message 0 (listed script) n);
       nodes = cells (h .tree);
     }
 
@@ -59,8 +61,9 @@ pub record Row : Type 0 where
 abbrev pub by : ℕ → Change → Commit
 by m c = record { committer = m; change = c }
 
-abbrev pub row : List Commit → ℕ → ℕ → ℕ → ℕ → List Cell → Row
-row script n d k b ns = record { script = script; commit = n; gives = record { depth = d; keys = k; boxes = b; nodes = ns } }
+abbrev pub row : List Commit → ℕ → ℕ → ℕ → ℕ → List Secret → List Cell → Row
+row script n d k b to ns =
+    record { script = script; commit = n; gives = record { depth = d; keys = k; boxes = b; to = to; nodes = ns } }
 
 -- three come, each renews, and the founder is removed
 abbrev pub shift : List Commit
@@ -74,14 +77,28 @@ reseated = by 0 (add 1) ∷ by 0 (add 2) ∷ by 0 (add 3) ∷ by 0 (add 4) ∷ b
 -- cases A to F, E having two commits, and I
 abbrev pub rows : List Row
 rows =
-    row shift 0 1 1 2 (seat 0 ∷ star [] ∷ seat 1 ∷ [])
-    ∷ row shift 1 2 2 3 (seat 0 ∷ star [] ∷ seat 1 ∷ star [] ∷ seat 2 ∷ blank ∷ blank ∷ [])
-    ∷ row shift 2 2 1 1 (seat 0 ∷ star [] ∷ seat 1 ∷ star [] ∷ seat 2 ∷ blank ∷ blank ∷ [])
-    ∷ row shift 3 2 2 4 (seat 0 ∷ star [] ∷ seat 1 ∷ star [] ∷ seat 2 ∷ blank ∷ seat 3 ∷ [])
-    ∷ row shift 4 2 2 2 (seat 0 ∷ star [] ∷ seat 1 ∷ star [] ∷ seat 2 ∷ star [] ∷ seat 3 ∷ [])
-    ∷ row shift 5 2 2 2 (seat 0 ∷ star [] ∷ seat 1 ∷ star [] ∷ seat 2 ∷ star [] ∷ seat 3 ∷ [])
-    ∷ row shift 6 2 1 1 (blank ∷ blank ∷ seat 1 ∷ star [] ∷ seat 2 ∷ star [] ∷ seat 3 ∷ [])
-    ∷ row reseated 5 3 1 3
+    -- A
+    row shift 0 1 1 2 (drawn newcomerKey 1 1 ∷ drawn initKey 1 1 ∷ []) (seat 0 ∷ star [] ∷ seat 1 ∷ [])
+    -- B
+    ∷ row shift 1 2 2 3 (drawn newcomerKey 1 1 ∷ drawn newcomerKey 2 2 ∷ drawn initKey 2 2 ∷ [])
+    (seat 0 ∷ star [] ∷ seat 1 ∷ star [] ∷ seat 2 ∷ blank ∷ blank ∷ [])
+    -- C
+    ∷ row shift 2 2 1 1 (lock (drawn pathSecret 0 2) ∷ [])
+    (seat 0 ∷ star [] ∷ seat 1 ∷ star [] ∷ seat 2 ∷ blank ∷ blank ∷ [])
+    -- D
+    ∷ row shift 3 2 2 4 (drawn leafKey 0 2 ∷ drawn leafKey 2 3 ∷ drawn newcomerKey 3 4 ∷ drawn initKey 3 4 ∷ [])
+    (seat 0 ∷ star [] ∷ seat 1 ∷ star [] ∷ seat 2 ∷ blank ∷ seat 3 ∷ [])
+    -- E, first
+    ∷ row shift 4 2 2 2 (drawn leafKey 2 3 ∷ lock (drawn pathSecret 1 4) ∷ [])
+    (seat 0 ∷ star [] ∷ seat 1 ∷ star [] ∷ seat 2 ∷ star [] ∷ seat 3 ∷ [])
+    -- E, second
+    ∷ row shift 5 2 2 2 (drawn leafKey 1 4 ∷ lock (drawn pathSecret 3 5) ∷ [])
+    (seat 0 ∷ star [] ∷ seat 1 ∷ star [] ∷ seat 2 ∷ star [] ∷ seat 3 ∷ [])
+    -- F
+    ∷ row shift 6 2 1 1 (lock (drawn pathSecret 3 5) ∷ [])
+    (blank ∷ blank ∷ seat 1 ∷ star [] ∷ seat 2 ∷ star [] ∷ seat 3 ∷ [])
+    -- I
+    ∷ row reseated 5 3 1 3 (lock (drawn pathSecret 0 5) ∷ drawn newcomerKey 5 6 ∷ drawn initKey 5 6 ∷ [])
     (seat 0 ∷ blank ∷ seat 5 ∷ star (5 ∷ []) ∷ seat 2 ∷ blank ∷ seat 3 ∷ star [] ∷ seat 4 ∷ blank ∷ blank ∷ blank ∷ blank ∷ blank ∷ blank ∷ [])
     ∷ []
 

@@ -1,5 +1,5 @@
 // The laws of trees and of runs. Each function here has one as its contract.
-ghost use Rattle.theory.specs.Laws.{Removal, Addition, UnmergedSince, Growth, ResolutionEmpty, LevelKept, PositionIs, HeldByHeight};
+ghost use Rattle.theory.specs.Laws.{Removal, Addition, UnmergedSince, Growth, PathLaid, ResolutionEmpty, LevelKept, PositionIs, HeldByHeight};
 
 // A removal empties the member's leaf and every parent above it, and touches nothing else.
 pub fn removal_holds() -> u8
@@ -25,6 +25,13 @@ pub fn unmerged_since_holds() -> u8
 // Growing keeps everybody's place.
 pub fn growth_holds() -> u8
     ensures { λ _. ⌜ Growth ⌝ }
+{
+    0
+}
+
+// A path renews its maker's leaf and the parents above it, and touches nothing else.
+pub fn path_laid_holds() -> u8
+    ensures { λ _. ⌜ PathLaid ⌝ }
 {
     0
 }

@@ -17,6 +17,7 @@ pub use laws::addition_holds;
 pub use laws::growth_holds;
 pub use laws::held_by_height_holds;
 pub use laws::level_kept_holds;
+pub use laws::path_laid_holds;
 pub use laws::position_is_holds;
 pub use laws::removal_holds;
 pub use laws::resolution_empty_holds;

@@ -1,3 +1,4 @@
+pub mod Covers
 pub mod Family
 pub mod Leaves
 pub mod Numbering

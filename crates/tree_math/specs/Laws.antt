@@ -1,10 +1,11 @@
 -- The laws of the numbering, above the walks; each is the contract of a function of the same name.
--- `Numbering`: which index a node has; `LeafPlaces`: the leaves; `ChildHeights`, `ChildlessLeaves`: the nodes below a node;
+-- `Numbering`: which index a node has; `Covers`: which leaves it stands over; `LeafPlaces`: the leaves; `ChildHeights`, `ChildlessLeaves`: the nodes below a node;
 -- `ParentOfChildren`, `ChildrenOfParent`: up and down again; `RootHasNoParent`: where the way up ends; `Outside`: past the last node.
 -- Assumes nothing.
-use Prim.Native.Nat.{ℕ, suc, _+_, _-_, _*_, _%_, _^_, _≤_, _<_}
+use Prim.Native.Nat.{ℕ, zero, suc, _+_, _-_, _*_, _%_, _^_, _≤_, _<_}
 use mathlib.Core.Path.{_≡_}
 use mathlib.Core.Logic.{_⊎_, _↔_}
+use Rattle.std.specs.declared.option.Option.{Option}
 use Rattle.std.specs.declared.option.Option.the-variants.{Some, None}
 use Rattle.tree_math.specs.Index.{rootOf, heightOf, parentOf, leftOf, rightOf, leafOf}
 use Rattle.tree_math.specs.Span.{span}
@@ -18,6 +19,26 @@ abbrev pub Numbering : Type 0
 Numbering =
     ((d h k : ℕ) → h ≤ d → k < 2 ^ (d - h) → heightOf d (nodeOver h k) ≡ Some h)
     × ((d i : ℕ) → i < span d → (h : ℕ) × (k : ℕ) × (h ≤ d) × (k < 2 ^ (d - h)) × (heightOf d i ≡ Some h) × (i ≡ nodeOver h k))
+
+-- on from an index that is there
+abbrev pub onward : Option ℕ → (ℕ → Option ℕ) → Option ℕ
+onward None f = None
+onward (Some i) f = f i
+
+-- the node that n steps to the left lead down to, and n steps to the right
+unfoldable pub leftmost : ℕ → ℕ → ℕ → Option ℕ
+leftmost d zero i = Some i
+leftmost d (suc n) i = onward (leftOf d i) (leftmost d n)
+
+unfoldable pub rightmost : ℕ → ℕ → ℕ → Option ℕ
+rightmost d zero i = Some i
+rightmost d (suc n) i = onward (rightOf d i) (rightmost d n)
+
+-- the node stands over the leaves a to a + 2 ^ h - 1, a = k * 2 ^ h: its first leaf is a, its last a + 2 ^ h - 1
+abbrev pub Covers : Type 0
+Covers =
+    (d h k : ℕ) → h ≤ d → k < 2 ^ (d - h)
+    → (leftmost d h (nodeOver h k) ≡ Some (2 * (k * 2 ^ h))) × (rightmost d h (nodeOver h k) ≡ Some (2 * (k * 2 ^ h + 2 ^ h - 1)))
 
 -- the k-th leaf stands at 2 k, there are 2 ^ d of them, and the nodes at even indices are the leaves
 abbrev pub LeafPlaces : Type 0

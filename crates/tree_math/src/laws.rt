@@ -1,8 +1,14 @@
 // The laws of the numbering, each the contract of a function.
-ghost use Rattle.tree_math.specs.Laws.{ChildHeights, ChildlessLeaves, ChildrenOfParent, LeafPlaces, Numbering, Outside, ParentOfChildren, RootHasNoParent};
+ghost use Rattle.tree_math.specs.Laws.{ChildHeights, ChildlessLeaves, ChildrenOfParent, Covers, LeafPlaces, Numbering, Outside, ParentOfChildren, RootHasNoParent};
 
 pub fn numbering_holds() -> u8
     ensures { λ _. ⌜ Numbering ⌝ }
+{
+    0
+}
+
+pub fn covers_holds() -> u8
+    ensures { λ _. ⌜ Covers ⌝ }
 {
     0
 }

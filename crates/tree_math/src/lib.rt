@@ -12,6 +12,7 @@ pub use index::NodeIndex;
 pub use laws::child_heights_hold;
 pub use laws::childless_leaves_hold;
 pub use laws::children_of_parent_hold;
+pub use laws::covers_holds;
 pub use laws::leaf_places_hold;
 pub use laws::numbering_holds;
 pub use laws::outside_holds;
