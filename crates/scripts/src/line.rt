@@ -32,7 +32,7 @@ pub fn read_line(line: &[u8]) -> Option<Commit>
     ensures { ReadsLine line.now result }
 {
     let (word, rest) = split_once(line, b' ')?;
-    if word == b"renew" {
+    if word == b"renew".as_slice() {
         let committer = MemberId(read_number(rest)?);
         return Some(Commit {
             committer,
@@ -40,13 +40,13 @@ pub fn read_line(line: &[u8]) -> Option<Commit>
         });
     }
     let (committer, member) = read_pair(rest)?;
-    if word == b"remove" {
+    if word == b"remove".as_slice() {
         return Some(Commit {
             committer,
             change: Change::Remove(member),
         });
     }
-    if word == b"add" {
+    if word == b"add".as_slice() {
         return Some(Commit {
             committer,
             change: Change::Add(member),
