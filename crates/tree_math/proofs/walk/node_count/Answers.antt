@@ -15,4 +15,4 @@ overflow-add-nodes-in-loop-level c = let b = span-bound c.loop-level.-level (ome
 
 pub loop-level-preserved : goal.loop-level-preserved
 loop-level-preserved c =
-    let n = c.loop-level.-level in omega (arith, span-suc n, ap span (add-one n), c.loop-level.invariant)
+    let n = c.loop-level._level in omega (arith, span-suc n, ap span (add-one n), c.loop-level.invariant)
