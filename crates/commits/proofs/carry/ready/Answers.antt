@@ -10,5 +10,5 @@ use Rattle.commits.proofs.carry.ready.Goals as goal
 pub returns-in-NoRoom : goal.returns-in-NoRoom
 returns-in-NoRoom c =
     absurd
-    (room c.args.tree.now.depth (vec_items c.args.tree.now.nodes) c.args.epoch.0 (commit_of c.args.commit) (sym c.in-default.ensures.number)
+    (room c.args.tree.now.depth (vec_items c.args.tree.now.nodes) c.args.epoch.0 (commit_of c.args.commit) (sym c.in_default.ensures.number)
     (subst (λ (x : TreeError). Crowded (change_of c.args.commit.change) (the_tree c.args.tree.now) x) c.in-NoRoom.is c.in-Err.ensures))

@@ -10,14 +10,14 @@ pub returns : goal.returns
 returns c =
     let targets : map target_of (vec_items c.in-Ok.targets) ≡ (laid c.args.committer.0 c.args.keys.path.leaf (key_from c.args.keys.path) (the_tree c.args.tree.now)).targets =
     c.in-Ok.ensures.value c.args.keys.path.leaf (key_from c.args.keys.path)
-    ∙ ap (λ t. (laid c.args.committer.0 c.args.keys.path.leaf (key_from c.args.keys.path) t).targets) c.as-part.ensures in
+    ∙ ap (λ t. (laid c.args.committer.0 c.args.keys.path.leaf (key_from c.args.keys.path) t).targets) c.as_part.ensures in
     let many : length (vec_items c.in-Ok.targets) ≡ _ = sym (length-map (vec_items c.in-Ok.targets) target_of) ∙ ap length targets in
     record {
       tree =
           record {
-            allowed = sym c.in-default.ensures.number;
-            tree = c.lay-path-node-keys.ensures.tree;
-            keys = c.lay-path-node-keys.ensures.value;
+            allowed = sym c.in_default.ensures.number;
+            tree = c.lay_path-node_keys.ensures.tree;
+            keys = c.lay_path-node_keys.ensures.value;
             targets = targets;
             boxes = omega (arith, c.len.ensures, c.in-Ok.targets.ok.0, many);
           };

@@ -17,7 +17,7 @@ returns-in-Leaf t c =
 pub returns-in-Parent : goal.returns-in-Parent
 unfolding leaf_key
 returns-in-Parent t c =
-    c.saturating-add.ensures
+    c.saturating_add.ensures
     ∙ append-count (leaf_key c.args.member.0 (part_tree c.in-Parent.left)) (leaf_key c.args.member.0 (part_tree c.in-Parent.right))
-    c.leaf-key-count.ensures c.leaf-key-count-in-Parent.ensures
+    c.leaf_key_count.ensures c.leaf_key_count-in-Parent.ensures
     ∙ ap (λ (u : Tree PublicKey). capped (length (leaf_key c.args.member.0 u))) (sym c.in-Parent.ensures.tree)

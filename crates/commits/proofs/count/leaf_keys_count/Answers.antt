@@ -13,9 +13,9 @@ loop-member-init c = refl
 
 pub loop-member-preserved : goal.loop-member-preserved
 loop-member-preserved c =
-    c.saturating-add-count.ensures
+    c.saturating_add-count.ensures
     ∙ more-count c.args.members.now c.loop-member.member-index (record { 0 = 0 }) (part_tree c.args.part) c.loop-member-test.true
-    c.loop-member.invariant c.leaf-key-count.ensures
+    c.loop-member.invariant c.leaf_key_count.ensures
 
 pub returns : goal.returns
 returns c =

@@ -18,68 +18,68 @@ returns-then-height-eq0 t c =
     let first = tree-first c.args.height c.args.nodes.now c.index-nodes-0.result c.if-height-eq0.true c.requires.0 in
     record {
       tree =
-          leaf-set c.args.height c.args.nodes.now c.renew-leaf.new.node c.if-height-eq0.true c.requires.0 ∙ ap leaf c.renew-leaf.ensures
+          leaf-set c.args.height c.args.nodes.now c.renew_leaf.new.node c.if-height-eq0.true c.requires.0 ∙ ap leaf c.renew_leaf.ensures
           ∙ ap (λ u. (laid c.args.member.0 c.args.keys.leaf (key_from c.args.keys) u).tree) (sym first);
       value = ap (λ u. (laid c.args.member.0 c.args.keys.leaf (key_from c.args.keys) u).levels) (sym first);
     }
 
-pub invariant-of-left : goal.invariant-of-left
-invariant-of-left t c = (left-span c.args.height c.args.nodes.now c.if-height-eq0.false c.requires.0 c.left-half.ensures.value, (omega arith, tt))
+pub invariant_of-left : goal.invariant_of-left
+invariant_of-left t c = (left-span c.args.height c.args.nodes.now c.if-height-eq0.false c.requires.0 c.left_half.ensures.value, (omega arith, tt))
 
-pub invariant-of-right : goal.invariant-of-right
-invariant-of-right t c = (right-span c.args.height c.args.nodes.now c.if-height-eq0.false c.requires.0 c.right-half.ensures.value, (omega arith, tt))
+pub invariant_of-right : goal.invariant_of-right
+invariant_of-right t c = (right-span c.args.height c.args.nodes.now c.if-height-eq0.false c.requires.0 c.right_half.ensures.value, (omega arith, tt))
 
-pub invariant-of-right-2 : goal.invariant-of-right-2
-invariant-of-right-2 t c = (right-span c.args.height c.args.nodes.now c.if-height-eq0.false c.requires.0 c.right-half.ensures.value, (omega arith, tt))
+pub invariant_of-right-2 : goal.invariant_of-right-2
+invariant_of-right-2 t c = (right-span c.args.height c.args.nodes.now c.if-height-eq0.false c.requires.0 c.right_half.ensures.value, (omega arith, tt))
 
 pub bounds-nodes-middle : goal.bounds-nodes-middle
 bounds-nodes-middle t c =
     omega (
       arith,
       past-middle c.args.height c.args.nodes.now c.if-height-eq0.false c.requires.0
-          (left-put c.args.height c.args.nodes.now c.if-height-eq0.false c.requires.0 (cut-start c.args.height c.args.nodes.now c.if-height-eq0.false c.requires.0) c.lay-in-level.new.nodes c.lay-in-level.auto.nodes),
+          (left-put c.args.height c.args.nodes.now c.if-height-eq0.false c.requires.0 (cut-start c.args.height c.args.nodes.now c.if-height-eq0.false c.requires.0) c.lay_in-level.new.nodes c.lay_in-level.auto.nodes),
     )
 
-pub overflow-add-result : goal.overflow-add-result
-overflow-add-result t c =
-    let small : c.lay-in-level.result + bool_byte c.is-reached-reached.result ≤ 11 =
+pub overflow_add-result : goal.overflow_add-result
+overflow_add-result t c =
+    let small : c.lay_in-level.result + bool_byte c.is_reached-reached.result ≤ 11 =
     level-small c.args.member.0 c.args.keys.leaf (key_from c.args.keys) (c.args.height - 1) (take (length c.args.nodes.now / 2 - 0) c.args.nodes.now)
-    c.lay-in-level.result c.is-reached-reached.result c.lay-in-level.ensures.value (omega arith) in
+    c.lay_in-level.result c.is_reached-reached.result c.lay_in-level.ensures.value (omega arith) in
     omega arith
 
-pub overflow-add-result-then-is-seated-2 : goal.overflow-add-result-then-is-seated-2
-overflow-add-result-then-is-seated-2 t c =
-    let small : c.lay-in-level-then-is-seated-2.result + bool_byte c.is-reached-reached-then-is-seated-2.result ≤ 11 =
+pub overflow_add-result-then-is_seated-2 : goal.overflow_add-result-then-is_seated-2
+overflow_add-result-then-is_seated-2 t c =
+    let small : c.lay_in-level-then-is_seated-2.result + bool_byte c.is_reached-reached-then-is_seated-2.result ≤ 11 =
     level-small c.args.member.0 c.args.keys.leaf (key_from c.args.keys) (c.args.height - 1) (behind c.args.nodes.now c.args.nodes.now)
-    c.lay-in-level-then-is-seated-2.result c.is-reached-reached-then-is-seated-2.result c.lay-in-level-then-is-seated-2.ensures.value (omega arith) in
+    c.lay_in-level-then-is_seated-2.result c.is_reached-reached-then-is_seated-2.result c.lay_in-level-then-is_seated-2.ensures.value (omega arith) in
     omega arith
 
-pub returns-then-is-seated : goal.returns-then-is-seated
-returns-then-is-seated t c =
+pub returns-then-is_seated : goal.returns-then-is_seated
+returns-then-is_seated t c =
     let both =
     lay-left c.args.height c.args.nodes.now c.if-height-eq0.false c.requires.0 c.args.member.0 c.args.keys.leaf (key_from c.args.keys)
-    c.lay-in-level.result c.key-at.result c.is-reached-reached.result c.lay-parent.new.node c.key-at.ensures c.lay-parent.ensures
-    c.lay-in-level.new.nodes c.lay-in-level.auto.nodes c.lay-in-level.ensures.tree c.lay-in-level.ensures.value
-    (of_left c.args.height c.args.nodes.now c.if-height-eq0.false c.requires.0 c.args.member.0 c.args.keys.leaf (key_from c.args.keys) (seated c.args.member.0) c.left-half.ensures.value c.if-is-seated.ensures)
-    (of_right c.args.height c.args.nodes.now c.if-height-eq0.false c.requires.0 c.args.member.0 c.args.keys.leaf (key_from c.args.keys) (λ u. not (is_none (resolution u))) c.right-half.ensures.value c.is-reached-reached.ensures) in
+    c.lay_in-level.result c.key_at.result c.is_reached-reached.result c.lay_parent.new.node c.key_at.ensures c.lay_parent.ensures
+    c.lay_in-level.new.nodes c.lay_in-level.auto.nodes c.lay_in-level.ensures.tree c.lay_in-level.ensures.value
+    (of_left c.args.height c.args.nodes.now c.if-height-eq0.false c.requires.0 c.args.member.0 c.args.keys.leaf (key_from c.args.keys) (seated c.args.member.0) c.left_half.ensures.value c.if-is_seated.ensures)
+    (of_right c.args.height c.args.nodes.now c.if-height-eq0.false c.requires.0 c.args.member.0 c.args.keys.leaf (key_from c.args.keys) (λ u. not (is_none (resolution u))) c.right_half.ensures.value c.is_reached-reached.ensures) in
     record { tree = both.0; value = both.1 }
 
-pub returns-then-is-seated-2 : goal.returns-then-is-seated-2
-returns-then-is-seated-2 t c =
+pub returns-then-is_seated-2 : goal.returns-then-is_seated-2
+returns-then-is_seated-2 t c =
     let both =
     lay-right c.args.height c.args.nodes.now c.if-height-eq0.false c.requires.0 c.args.member.0 c.args.keys.leaf (key_from c.args.keys)
-    c.lay-in-level-then-is-seated-2.result c.key-at-then-is-seated-2.result c.is-reached-reached-then-is-seated-2.result c.lay-parent-then-is-seated-2.new.node
-    c.key-at-then-is-seated-2.ensures c.lay-parent-then-is-seated-2.ensures
-    c.lay-in-level-then-is-seated-2.new.nodes c.lay-in-level-then-is-seated-2.auto.nodes c.lay-in-level-then-is-seated-2.ensures.tree c.lay-in-level-then-is-seated-2.ensures.value
-    (of_left c.args.height c.args.nodes.now c.if-height-eq0.false c.requires.0 c.args.member.0 c.args.keys.leaf (key_from c.args.keys) (seated c.args.member.0) c.left-half.ensures.value c.if-is-seated.ensures)
-    (of_right c.args.height c.args.nodes.now c.if-height-eq0.false c.requires.0 c.args.member.0 c.args.keys.leaf (key_from c.args.keys) (seated c.args.member.0) c.right-half.ensures.value c.if-is-seated-2.ensures)
-    (of_left c.args.height c.args.nodes.now c.if-height-eq0.false c.requires.0 c.args.member.0 c.args.keys.leaf (key_from c.args.keys) (λ u. not (is_none (resolution u))) c.left-half.ensures.value c.is-reached-reached-then-is-seated-2.ensures) in
+    c.lay_in-level-then-is_seated-2.result c.key_at-then-is_seated-2.result c.is_reached-reached-then-is_seated-2.result c.lay_parent-then-is_seated-2.new.node
+    c.key_at-then-is_seated-2.ensures c.lay_parent-then-is_seated-2.ensures
+    c.lay_in-level-then-is_seated-2.new.nodes c.lay_in-level-then-is_seated-2.auto.nodes c.lay_in-level-then-is_seated-2.ensures.tree c.lay_in-level-then-is_seated-2.ensures.value
+    (of_left c.args.height c.args.nodes.now c.if-height-eq0.false c.requires.0 c.args.member.0 c.args.keys.leaf (key_from c.args.keys) (seated c.args.member.0) c.left_half.ensures.value c.if-is_seated.ensures)
+    (of_right c.args.height c.args.nodes.now c.if-height-eq0.false c.requires.0 c.args.member.0 c.args.keys.leaf (key_from c.args.keys) (seated c.args.member.0) c.right_half.ensures.value c.if-is_seated-2.ensures)
+    (of_left c.args.height c.args.nodes.now c.if-height-eq0.false c.requires.0 c.args.member.0 c.args.keys.leaf (key_from c.args.keys) (λ u. not (is_none (resolution u))) c.left_half.ensures.value c.is_reached-reached-then-is_seated-2.ensures) in
     record { tree = both.0; value = both.1 }
 
 pub returns : goal.returns
 returns t c =
     let both =
     lay-nowhere c.args.height c.args.nodes.now c.if-height-eq0.false c.requires.0 c.args.member.0 c.args.keys.leaf (key_from c.args.keys)
-    (of_left c.args.height c.args.nodes.now c.if-height-eq0.false c.requires.0 c.args.member.0 c.args.keys.leaf (key_from c.args.keys) (seated c.args.member.0) c.left-half.ensures.value c.if-is-seated.ensures)
-    (of_right c.args.height c.args.nodes.now c.if-height-eq0.false c.requires.0 c.args.member.0 c.args.keys.leaf (key_from c.args.keys) (seated c.args.member.0) c.right-half.ensures.value c.if-is-seated-2.ensures) in
+    (of_left c.args.height c.args.nodes.now c.if-height-eq0.false c.requires.0 c.args.member.0 c.args.keys.leaf (key_from c.args.keys) (seated c.args.member.0) c.left_half.ensures.value c.if-is_seated.ensures)
+    (of_right c.args.height c.args.nodes.now c.if-height-eq0.false c.requires.0 c.args.member.0 c.args.keys.leaf (key_from c.args.keys) (seated c.args.member.0) c.right_half.ensures.value c.if-is_seated-2.ensures) in
     record { tree = both.0; value = both.1 }

@@ -1,4 +1,4 @@
 use Rattle.commits.proofs.path.+lay_in.Given as goal
 
-abbrev pub decreases-lay-in : goal.decreases-lay-in
-decreases-lay-in l = l.height
+abbrev pub decreases-lay_in : goal.decreases-lay_in
+decreases-lay_in l = l.height

@@ -1,4 +1,4 @@
 use Rattle.commits.proofs.targets.+push_targets.Given as goal
 
-abbrev pub decreases-push-targets : goal.decreases-push-targets
-decreases-push-targets l = l.part.height
+abbrev pub decreases-push_targets : goal.decreases-push_targets
+decreases-push_targets l = l.part.height

@@ -10,6 +10,6 @@ pub returns-in-Err : goal.returns-in-Err
 returns-in-Err c =
     record {
       tree =
-          stopped c.args.handset.now (message_of c.args.message) c.in-Err.error (c.if-message-handset.false ∙ add-one c.args.handset.now.epoch.0) (sym c.if-is-stranger.ensures)
-          (subst (λ (x : Commit). Stopped c.args.handset.now.epoch.0 x (the_tree c.args.handset.now.tree) c.in-Err.error) c.commit-of-commit.ensures c.in-Err.ensures.tree);
+          stopped c.args.handset.now (message_of c.args.message) c.in-Err.error (c.if-message-handset.false ∙ add-one c.args.handset.now.epoch.0) (sym c.if-is_stranger.ensures)
+          (subst (λ (x : Commit). Stopped c.args.handset.now.epoch.0 x (the_tree c.args.handset.now.tree) c.in-Err.error) c.commit_of-commit.ensures c.in-Err.ensures.tree);
     }

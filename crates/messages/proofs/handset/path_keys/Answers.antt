@@ -15,7 +15,7 @@ loop-key-smaller c =
 pub loop-key-preserved : goal.loop-key-preserved
 loop-key-preserved c =
     one-more-key (vec_items c.loop-key.keys) (vec_items c.push.new.self) c.in-Some.key c.args.bytes.now c.loop-key.rest.now c.in-Some.behind.now c.loop-key.invariant
-    c.in-ok-push.ensures.items c.in-Some.ensures.value.0 c.in-Some.ensures.value.1
+    c.in_ok-push.ensures.items c.in-Some.ensures.value.0 c.in-Some.ensures.value.1
 
 pub returns : goal.returns
-returns c = all_read (vec_items c.loop-key.keys) c.args.bytes.now c.loop-key.rest.now c.loop-key.invariant c.in-default.ensures.value
+returns c = all_read (vec_items c.loop-key.keys) c.args.bytes.now c.loop-key.rest.now c.loop-key.invariant c.in_default.ensures.value

@@ -7,7 +7,7 @@ returns c =
     let ten : 10 ≤ length c.args.bytes.now = search rules in
     let byte : (i : ℕ) → get_or c.args.bytes.now i 0 < 256 = λ i. search rules in
     let tag : get_or c.args.bytes.now 0 0 ≡ 5 = search rules in (
-      record { epoch = c.from-be-bytes.type-inv; kind = byte 5; committer = c.from-be-bytes-2.type-inv; other = c.from-be-bytes-3.type-inv },
-      read_head c.args.bytes.now c.from-be-bytes.result c.from-be-bytes-2.result c.from-be-bytes-3.result ten byte tag
-          c.from-be-bytes.ensures c.from-be-bytes-2.ensures c.from-be-bytes-3.ensures,
+      record { epoch = c.from_be_bytes.type_inv; kind = byte 5; committer = c.from_be_bytes-2.type_inv; other = c.from_be_bytes-3.type_inv },
+      read_head c.args.bytes.now c.from_be_bytes.result c.from_be_bytes-2.result c.from_be_bytes-3.result ten byte tag
+          c.from_be_bytes.ensures c.from_be_bytes-2.ensures c.from_be_bytes-3.ensures,
     )

@@ -8,4 +8,4 @@ returns c =
     let h : get_or c.args.bytes.now 0 0 < 256 = search rules in
     let one : 1 ≤ length c.args.bytes.now = search rules in
     read-run 32 256 one_byte peel-count divides-32 c.args.bytes.now (take (length c.args.bytes.now - 1) (drop 1 c.args.bytes.now)) (get_or c.args.bytes.now 0 0) h
-    (front-1 c.args.bytes.now one) c.split-at-checked.result c.split-at-checked.ensures.cases
+    (front-1 c.args.bytes.now one) c.split_at_checked.result c.split_at_checked.ensures.cases

@@ -15,13 +15,13 @@ returns-in-Some c =
       taken = composed-is-taken;
     }
 
-pub returns-in-default-join-keys : goal.returns-in-default-join-keys
-returns-in-default-join-keys c =
+pub returns-in_default-join_keys : goal.returns-in_default-join_keys
+returns-in_default-join_keys c =
     let h = c.args.handset.now in
     record {
       bytes =
           then-seven h.member.0 h.epoch.0 (the_tree h.tree) c.args.change c.args.answers.halves.now c.args.answers.boxes.now
-          (ap (λ (a : Change). refusal h.epoch.0 (record { committer = h.member.0; change = a }) (the_tree h.tree)) (sym c.asked.ensures.value) ∙ sym c.in-default.ensures.number);
+          (ap (λ (a : Change). refusal h.epoch.0 (record { committer = h.member.0; change = a }) (the_tree h.tree)) (sym c.asked.ensures.value) ∙ sym c.in_default.ensures.number);
       taken = composed-is-taken;
     }
 
@@ -34,5 +34,5 @@ returns c =
       taken = composed-is-taken;
     }
 
-pub returns-in-default-halves : goal.returns-in-default-halves
-returns-in-default-halves c = record { bytes = search rules; taken = composed-is-taken }
+pub returns-in_default-halves : goal.returns-in_default-halves
+returns-in_default-halves c = record { bytes = search rules; taken = composed-is-taken }

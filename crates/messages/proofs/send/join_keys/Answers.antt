@@ -9,8 +9,8 @@ loop-key-init c = none-joined (vec_items c.new-bytes.result) c.args.keys.now c.n
 
 pub loop-key-preserved : goal.loop-key-preserved
 loop-key-preserved c =
-    one-joined (vec_items c.loop-key.bytes) (vec_items c.write-key.new.out) c.args.keys.now c.loop-key.key-index _
-    c.loop-key.invariant (c.in-ok-write-key.ensures.items.items refl) c.loop-key-test.true
+    one-joined (vec_items c.loop-key.bytes) (vec_items c.write_key.new.out) c.args.keys.now c.loop-key.key-index _
+    c.loop-key.invariant (c.in_ok-write_key.ensures.items.items refl) c.loop-key-test.true
 
 pub returns : goal.returns
 returns c = c.loop-key.invariant ∙ ap joined_keys (take_all c.loop-key.key-index c.args.keys.now c.loop-key-test.false)

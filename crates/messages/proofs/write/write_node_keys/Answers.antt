@@ -7,6 +7,6 @@ pub returns : goal.returns
 returns c =
     record {
       items =
-          appends-two (vec_items c.args.out.now) ((length c.args.keys.now / 32) ∷ []) c.in-ok-push.ensures.items
-          (appends-slice c.extend-from-slice.ensures.items);
+          appends-two (vec_items c.args.out.now) ((length c.args.keys.now / 32) ∷ []) c.in_ok-push.ensures.items
+          (appends-slice c.extend_from_slice.ensures.items);
     }

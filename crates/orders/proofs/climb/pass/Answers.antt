@@ -9,4 +9,4 @@ use Rattle.orders.proofs.climb.pass.Goals as goal
 pub returns : goal.returns
 returns c =
     gives-behind (vec_items c.args.out.now) _ _ _ (held_forgotten c.args.member.0 (parent_of c.args.node.now) c.args.height) (climbed c.args.level c.args.height (resolution (part_tree c.args.other))) c.climb.result
-    (c.in-ok-forget-held.ensures.items refl) c.climb.ensures
+    (c.in_ok-forget_held.ensures.items refl) c.climb.ensures

@@ -11,15 +11,15 @@ use Rattle.orders.proofs.leave.+abandon.Goals as goal
 
 pub abandon-requires : goal.abandon-requires
 abandon-requires t c =
-    let low : c.sides-of-sides.result.own.height < c.args.part.height =
-    side-below (seated c.args.member.0 (part_tree c.in-Parent.left)) c.sides-of-sides.ensures.height c.in-Parent.ensures.left c.in-Parent.ensures.right in
+    let low : c.sides_of-sides.result.own.height < c.args.part.height =
+    side-below (seated c.args.member.0 (part_tree c.in-Parent.left)) c.sides_of-sides.ensures.height c.in-Parent.ensures.left c.in-Parent.ensures.right in
     search rules
 
 pub returns-in-Leaf : goal.returns-in-Leaf
 returns-in-Leaf t c = appends-as (abandoned-leaf c.args.member.0 (part_tree c.args.part) (leaf_of c.in-Leaf.field-0.now) c.in-Leaf.ensures.1) c.give.ensures
 
-pub returns-in-ok-abandon : goal.returns-in-ok-abandon
-returns-in-ok-abandon t c =
+pub returns-in_ok-abandon : goal.returns-in_ok-abandon
+returns-in_ok-abandon t c =
     appends-as
-    (abandoned-above c.args.member.0 c.args.part.height (part_tree c.args.part) (parent_of c.in-Parent.node.now) (part_tree c.in-Parent.left) (part_tree c.in-Parent.right) (part_tree c.sides-of-sides.result.own) c.in-Parent.ensures.tree c.sides-of-sides.ensures.own (parent-height c.args.part c.in-Parent.left c.in-Parent.ensures.left))
-    (appends-two (map order_of (vec_items c.args.out.now)) (abandoned c.args.member.0 (part_tree c.sides-of-sides.result.own)) (c.in-ok-abandon.ensures.items refl) c.forget-held.ensures)
+    (abandoned-above c.args.member.0 c.args.part.height (part_tree c.args.part) (parent_of c.in-Parent.node.now) (part_tree c.in-Parent.left) (part_tree c.in-Parent.right) (part_tree c.sides_of-sides.result.own) c.in-Parent.ensures.tree c.sides_of-sides.ensures.own (parent-height c.args.part c.in-Parent.left c.in-Parent.ensures.left))
+    (appends-two (map order_of (vec_items c.args.out.now)) (abandoned c.args.member.0 (part_tree c.sides_of-sides.result.own)) (c.in_ok-abandon.ensures.items refl) c.forget_held.ensures)

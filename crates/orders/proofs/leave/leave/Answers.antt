@@ -4,4 +4,4 @@ use Rattle.orders.specs.Order.{order_of}
 use Rattle.orders.proofs.leave.leave.Goals as goal
 
 pub returns : goal.returns
-returns c = appends-two (map order_of (vec_items c.args.out.now)) _ (c.in-ok-give.ensures.items refl) c.abandon.ensures
+returns c = appends-two (map order_of (vec_items c.args.out.now)) _ (c.in_ok-give.ensures.items refl) c.abandon.ensures

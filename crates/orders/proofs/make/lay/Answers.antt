@@ -8,5 +8,5 @@ use Rattle.orders.proofs.make.lay.Goals as goal
 
 pub returns : goal.returns
 returns c =
-    gives-behind (vec_items c.args.out.now) _ _ _ (held_forgotten c.args.committer.0 (parent_of c.args.node.now) c.args.height) (sealed_up c.args.level c.args.height (resolution (part_tree c.args.other))) c.seal-up.result
-    (c.in-ok-forget-held.ensures.items refl) c.seal-up.ensures
+    gives-behind (vec_items c.args.out.now) _ _ _ (held_forgotten c.args.committer.0 (parent_of c.args.node.now) c.args.height) (sealed_up c.args.level c.args.height (resolution (part_tree c.args.other))) c.seal_up.result
+    (c.in_ok-forget_held.ensures.items refl) c.seal_up.ensures

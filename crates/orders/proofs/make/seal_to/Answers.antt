@@ -8,7 +8,7 @@ use Rattle.orders.proofs.make.seal_to.Goals as goal
 pub loop-key-preserved : goal.loop-key-preserved
 loop-key-preserved c =
     sealed-more (map order_of (vec_items c.args.out.now)) (vec_items c.loop-key.out) (vec_items c.push.new.self) c.args.keys.now _ c.loop-key.key-index c.args.slot.0 _
-    c.in-ok-push.ensures.items c.loop-key.invariant refl c.loop-key-test.true
+    c.in_ok-push.ensures.items c.loop-key.invariant refl c.loop-key-test.true
 
 pub returns : goal.returns
 returns c =

@@ -7,7 +7,7 @@ use Rattle.orders.proofs.make.seal_up.Goals as goal
 
 pub returns : goal.returns
 returns c =
-    sealed-above c.args.level c.args.height c.path-slot-path.result.0 c.path-slot-next.result.0 c.key-slot-key.result.0 _ (resolution (part_tree c.args.other))
-    (vec_items c.args.out.now) (vec_items c.seal-to.new.out) (vec_items c.give.new.out)
-    (c.deref.ensures.value ∙ c.in-ok-keys.ensures) (λ e. eqb-false _ 0 (sym c.if-is-empty.ensures) (sym c.deref.ensures.len ∙ e)) c.path-slot-path.ensures c.path-slot-next.ensures c.key-slot-key.ensures
-    (c.in-ok-seal-to.ensures.items refl) (c.in-ok-give.ensures.items refl)
+    sealed-above c.args.level c.args.height c.path_slot-path.result.0 c.path_slot-next.result.0 c.key_slot-key.result.0 _ (resolution (part_tree c.args.other))
+    (vec_items c.args.out.now) (vec_items c.seal_to.new.out) (vec_items c.give.new.out)
+    (c.deref.ensures.value ∙ c.in_ok-keys.ensures) (λ e. eqb-false _ 0 (sym c.if-is_empty.ensures) (sym c.deref.ensures.len ∙ e)) c.path_slot-path.ensures c.path_slot-next.ensures c.key_slot-key.ensures
+    (c.in_ok-seal_to.ensures.items refl) (c.in_ok-give.ensures.items refl)

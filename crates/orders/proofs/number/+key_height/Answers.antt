@@ -12,37 +12,37 @@ returns-in-Leaf t c =
       low = omega arith;
     }
 
-pub returns-then-is-among : goal.returns-then-is-among
-returns-then-is-among t c =
+pub returns-then-is_among : goal.returns-then-is_among
+returns-then-is_among t c =
     record {
       value = height-unmerged c.args.member.0 (part_tree c.args.part) (parent_of c.in-Parent.node.now) (part_tree c.in-Parent.left) (part_tree c.in-Parent.right) c.in-Parent.ensures.tree
-          c.in-Some.keyed.key (numbers c.in-Some.keyed.unmerged.now) c.in-Some.ensures (sym c.if-is-among.ensures);
+          c.in-Some.keyed.key (numbers c.in-Some.keyed.unmerged.now) c.in-Some.ensures (sym c.if-is_among.ensures);
       low = omega (arith, c.in-Parent.ensures.left, c.in-Parent.ensures.right);
     }
 
-pub returns-else-is-among : goal.returns-else-is-among
-returns-else-is-among t c =
+pub returns-else-is_among : goal.returns-else-is_among
+returns-else-is_among t c =
     record {
       value = parent-height c.args.part c.in-Parent.left c.in-Parent.ensures.left
           ∙ height-merged c.args.member.0 (part_tree c.args.part) (parent_of c.in-Parent.node.now) (part_tree c.in-Parent.left) (part_tree c.in-Parent.right) c.in-Parent.ensures.tree
-          c.in-Some.keyed.key (numbers c.in-Some.keyed.unmerged.now) c.in-Some.ensures (sym c.if-is-among.ensures);
+          c.in-Some.keyed.key (numbers c.in-Some.keyed.unmerged.now) c.in-Some.ensures (sym c.if-is_among.ensures);
       low = omega (arith, c.in-Parent.ensures.left, c.in-Parent.ensures.right);
     }
 
-pub returns-then-is-seated : goal.returns-then-is-seated
-returns-then-is-seated t c =
+pub returns-then-is_seated : goal.returns-then-is_seated
+returns-then-is_seated t c =
     record {
-      value = c.key-height.ensures.value
+      value = c.key_height.ensures.value
           ∙ height-left c.args.member.0 (part_tree c.args.part) (parent_of c.in-Parent.node.now) (part_tree c.in-Parent.left) (part_tree c.in-Parent.right) c.in-Parent.ensures.tree
-          c.in-None.ensures (sym c.if-is-seated.ensures);
+          c.in-None.ensures (sym c.if-is_seated.ensures);
       low = omega (arith, c.in-Parent.ensures.left, c.in-Parent.ensures.right);
     }
 
-pub returns-else-is-seated : goal.returns-else-is-seated
-returns-else-is-seated t c =
+pub returns-else-is_seated : goal.returns-else-is_seated
+returns-else-is_seated t c =
     record {
-      value = c.key-height-else-is-seated.ensures.value
+      value = c.key_height-else-is_seated.ensures.value
           ∙ height-right c.args.member.0 (part_tree c.args.part) (parent_of c.in-Parent.node.now) (part_tree c.in-Parent.left) (part_tree c.in-Parent.right) c.in-Parent.ensures.tree
-          c.in-None.ensures (sym c.if-is-seated.ensures);
+          c.in-None.ensures (sym c.if-is_seated.ensures);
       low = omega (arith, c.in-Parent.ensures.left, c.in-Parent.ensures.right);
     }

@@ -15,24 +15,24 @@ pub returns-in-Some : goal.returns-in-Some
 returns-in-Some t c =
     omega (
       arith,
-      c.unmerged-number.ensures,
+      c.unmerged_number.ensures,
       (under-key c.args.member.0 (part_tree c.args.part) (parent_of c.in-Parent.node.now) (part_tree c.in-Parent.left) (part_tree c.in-Parent.right) c.in-Parent.ensures.tree
           c.in-Some.keyed.key (numbers c.in-Some.keyed.unmerged.now) c.in-Some.ensures).0,
     )
 
-pub returns-then-is-seated : goal.returns-then-is-seated
-returns-then-is-seated t c =
-    c.key-number.ensures
+pub returns-then-is_seated : goal.returns-then-is_seated
+returns-then-is_seated t c =
+    c.key_number.ensures
     ∙ ap capped (number-left c.args.member.0 (part_tree c.args.part) (parent_of c.in-Parent.node.now) (part_tree c.in-Parent.left) (part_tree c.in-Parent.right) c.in-Parent.ensures.tree
-    c.in-None.ensures (sym c.if-is-seated.ensures))
+    c.in-None.ensures (sym c.if-is_seated.ensures))
 
-pub returns-else-is-seated : goal.returns-else-is-seated
-returns-else-is-seated t c =
+pub returns-else-is_seated : goal.returns-else-is_seated
+returns-else-is_seated t c =
     omega (
       arith,
-      c.saturating-add.ensures,
-      c.resolution-count.ensures,
-      c.key-number-else-is-seated.ensures,
+      c.saturating_add.ensures,
+      c.resolution_count.ensures,
+      c.key_number-else-is_seated.ensures,
       number-right c.args.member.0 (part_tree c.args.part) (parent_of c.in-Parent.node.now) (part_tree c.in-Parent.left) (part_tree c.in-Parent.right) c.in-Parent.ensures.tree
-          c.in-None.ensures (sym c.if-is-seated.ensures),
+          c.in-None.ensures (sym c.if-is_seated.ensures),
     )

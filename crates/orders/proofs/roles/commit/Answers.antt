@@ -12,9 +12,9 @@ use Rattle.orders.proofs.roles.commit.Goals as goal
 pub returns : goal.returns
 returns c =
     appends-as
-    (commits c.args.view.committer.0 c.in-ok-level.level c.path-slot.result.0 (change_asked c.args.view.change) (option_to_list c.init-key.result) (init_keys c.args.view.change) (part_tree c.args.view.before) (part_tree c.args.view.readied)
-    c.in-ok-level.ensures.level c.path-slot.ensures c.init-key.ensures)
-    (appends-two (map order_of (vec_items c.args.out.now)) (dropped_for c.args.view.committer.0 (change_asked c.args.view.change) (part_tree c.args.view.before)) (c.in-ok-drop-for.ensures.items refl)
-    (appends-two (map order_of (vec_items c.drop-for.new.out)) _ (c.in-ok-give.ensures.items refl)
-    (appends-two (map order_of (vec_items c.give.new.out)) (made c.args.view.committer.0 (part_tree c.args.view.readied)) c.in-ok-level.ensures.items
+    (commits c.args.view.committer.0 c.in_ok-level.level c.path_slot.result.0 (change_asked c.args.view.change) (option_to_list c.init_key.result) (init_keys c.args.view.change) (part_tree c.args.view.before) (part_tree c.args.view.readied)
+    c.in_ok-level.ensures.level c.path_slot.ensures c.init_key.ensures)
+    (appends-two (map order_of (vec_items c.args.out.now)) (dropped_for c.args.view.committer.0 (change_asked c.args.view.change) (part_tree c.args.view.before)) (c.in_ok-drop_for.ensures.items refl)
+    (appends-two (map order_of (vec_items c.drop_for.new.out)) _ (c.in_ok-give.ensures.items refl)
+    (appends-two (map order_of (vec_items c.give.new.out)) (made c.args.view.committer.0 (part_tree c.args.view.readied)) c.in_ok-level.ensures.items
     c.turn.ensures)))

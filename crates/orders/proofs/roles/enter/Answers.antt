@@ -11,8 +11,8 @@ use Rattle.orders.proofs.roles.enter.Goals as goal
 pub returns : goal.returns
 returns c =
     appends-as
-    (enters c.args.member.0 c.args.view.committer.0 c.in-ok-level.level (part_tree c.args.view.readied) c.in-ok-level.ensures.level
-    c.path-counts-counts.result.boxes c.path-slot.result.0 (counts-are c.args.view.committer.0 (part_tree c.args.view.readied) c.path-counts-counts.result c.path-counts-counts.ensures.value).1 c.path-slot.ensures)
-    (appends-two (map order_of (vec_items c.args.out.now)) _ (c.in-ok-give.ensures.items refl)
-    (appends-two (map order_of (vec_items c.give.new.out)) (map cap_order (followed c.args.member.0 c.args.view.committer.0 (part_tree c.args.view.readied))) c.in-ok-level.ensures.items
-    (appends-two (map order_of (vec_items c.follow.new.out)) _ (c.in-ok-give-2.ensures.items refl) c.renew.ensures)))
+    (enters c.args.member.0 c.args.view.committer.0 c.in_ok-level.level (part_tree c.args.view.readied) c.in_ok-level.ensures.level
+    c.path_counts-counts.result.boxes c.path_slot.result.0 (counts-are c.args.view.committer.0 (part_tree c.args.view.readied) c.path_counts-counts.result c.path_counts-counts.ensures.value).1 c.path_slot.ensures)
+    (appends-two (map order_of (vec_items c.args.out.now)) _ (c.in_ok-give.ensures.items refl)
+    (appends-two (map order_of (vec_items c.give.new.out)) (map cap_order (followed c.args.member.0 c.args.view.committer.0 (part_tree c.args.view.readied))) c.in_ok-level.ensures.items
+    (appends-two (map order_of (vec_items c.follow.new.out)) _ (c.in_ok-give-2.ensures.items refl) c.renew.ensures)))

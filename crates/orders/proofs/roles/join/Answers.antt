@@ -5,4 +5,4 @@ use Rattle.orders.specs.Order.{order_of}
 use Rattle.orders.proofs.roles.join.Goals as goal
 
 pub returns : goal.returns
-returns c = appends-two (map order_of (vec_items c.args.out.now)) introduced (c.in-ok-introduce.ensures.items refl) c.enter.ensures
+returns c = appends-two (map order_of (vec_items c.args.out.now)) introduced (c.in_ok-introduce.ensures.items refl) c.enter.ensures

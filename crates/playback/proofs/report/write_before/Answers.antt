@@ -5,4 +5,4 @@ use Rattle.playback.proofs.report.write_before.Goals as goal
 
 pub returns : goal.returns
 returns c =
-    appended (then-more (vec_items c.args.out.now) (decimal c.args.number) (c.args.byte ∷ []) c.in-ok-write-number.ensures.items c.in-ok-push.ensures.items)
+    appended (then-more (vec_items c.args.out.now) (decimal c.args.number) (c.args.byte ∷ []) c.in_ok-write_number.ensures.items c.in_ok-push.ensures.items)

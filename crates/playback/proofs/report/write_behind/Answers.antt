@@ -5,4 +5,4 @@ use Rattle.playback.proofs.report.write_behind.Goals as goal
 
 pub returns : goal.returns
 returns c =
-    appends-two (vec_items c.args.out.now) (c.args.byte ∷ []) c.in-ok-push.ensures.items (appends-whole c.write-number.ensures.items)
+    appends-two (vec_items c.args.out.now) (c.args.byte ∷ []) c.in_ok-push.ensures.items (appends-whole c.write_number.ensures.items)

@@ -10,7 +10,7 @@ returns c =
     let is : c.from.result ≡ c.args.epoch.0 = search rules in
     let first = decimal c.from.result in
     let second = 32 ∷ decimal c.args.boxes in
-    appends-as (ap (λ (n : ℕ). counts_bytes n c.args.boxes c.args.node-keys) is)
+    appends-as (ap (λ (n : ℕ). counts_bytes n c.args.boxes c.args.node_keys) is)
     (appends-two (vec_items c.args.out.now) (first ++ second)
-    (then-more (vec_items c.args.out.now) first second c.in-ok-write-number.ensures.items (c.in-ok-write-behind.ensures.items refl))
-    c.write-behind-2.ensures)
+    (then-more (vec_items c.args.out.now) first second c.in_ok-write_number.ensures.items (c.in_ok-write_behind.ensures.items refl))
+    c.write_behind-2.ensures)

@@ -5,8 +5,8 @@ use Rattle.playback.proofs.report.write_nodes.Goals as goal
 pub loop-index-preserved : goal.loop-index-preserved
 loop-index-preserved c =
     written-more c.args.part.height c.args.part.nodes.now c.args.part.whole (vec_items c.args.out.now) (vec_items c.loop-index.out)
-    (vec_items c.write-node.new.out) c.loop-index.index c.node-item.result c.loop-index-test.true c.node-item.is c.loop-index.invariant
-    (c.in-ok-write-node.ensures.items refl)
+    (vec_items c.write_node.new.out) c.loop-index.index c.node-item.result c.loop-index-test.true c.node-item.is c.loop-index.invariant
+    (c.in_ok-write_node.ensures.items refl)
 
 pub returns : goal.returns
 returns c =

@@ -16,7 +16,7 @@ loop-member-preserved c =
     let before : List ℕ = vec_items c.args.out.now in
     let so_far : List ℕ = behind_bytes (numbers (take c.loop-member.member-index c.args.members.now)) in
     let is : c.from.result ≡ m = search rules in
-    then-more before so_far (44 ∷ decimal c.from.result) c.loop-member.invariant (c.in-ok-write-behind.ensures.items refl)
+    then-more before so_far (44 ∷ decimal c.from.result) c.loop-member.invariant (c.in_ok-write_behind.ensures.items refl)
     ∙ ap (λ (n : ℕ). before ++ (so_far ++ 44 ∷ decimal n)) is
     ∙ ap (λ l. before ++ l) (sym (behind_more c.args.members.now c.loop-member.member-index (record { 0 = 0 }) c.loop-member-test.true))
 

@@ -10,13 +10,13 @@ use Rattle.playback.specs.Steps.{state_of}
 use Rattle.playback.proofs.Steps.{carried-as, report-as, same-state}
 use Rattle.playback.proofs.script.answer.Goals as goal
 
-pub returns-in-default : goal.returns-in-default
-returns-in-default c = λ k. record { bytes = refusal_bytes 1; appended = c.write-refusal.ensures.bytes.items k; answers = malformed c.in-default.ensures }
+pub returns-in_default : goal.returns-in_default
+returns-in_default c = λ k. record { bytes = refusal_bytes 1; appended = c.write_refusal.ensures.bytes.items k; answers = malformed c.in_default.ensures }
 
 pub returns-in-Ok : goal.returns-in-Ok
 returns-in-Ok c =
     λ k. carried-as (state_of c.args.station.now) c.args.line.now c.in-Some.commit _ _ _ _ _ c.in-Some.ensures.1 c.in-Some.ensures.0
-    c.in-Ok.ensures.tree.allowed c.in-Ok.ensures.tree.tree (add-one c.args.station.now.epoch.0) (c.write-report.ensures.bytes.items k)
+    c.in-Ok.ensures.tree.allowed c.in-Ok.ensures.tree.tree (add-one c.args.station.now.epoch.0) (c.write_report.ensures.bytes.items k)
     (report-as _ _ _ _ _ _ _ _ (add-one c.args.station.now.epoch.0) c.in-Ok.ensures.tree.boxes c.in-Ok.ensures.tree.keys c.in-Ok.ensures.tree.tree)
 
 pub returns-in-Refused : goal.returns-in-Refused
@@ -25,7 +25,7 @@ returns-in-Refused c =
     (ap (λ t. state_of (record { tree = t; epoch = c.args.station.now.epoch })) (sym c.in-Err.ensures.tree.0))
     (record {
       bytes = refusal_bytes (number_of c.in-Refused.refusal);
-      appended = c.write-refusal-in-Refused.ensures.bytes.items k;
+      appended = c.write_refusal-in-Refused.ensures.bytes.items k;
       answers =
           refused c.in-Some.commit c.in-Some.ensures.1 c.in-Some.ensures.0 (number_of c.in-Refused.refusal)
           (subst (λ (x : CommitError). Stopped c.args.station.now.epoch.0 (commit_of c.in-Some.commit) (the_tree c.args.station.now.tree) x) c.in-Refused.is c.in-Err.ensures.tree.1);

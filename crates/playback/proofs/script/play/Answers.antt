@@ -22,25 +22,25 @@ printed-all input empty-out out m rest s few lines member first none p =
     subst (Printed input) (sym (p.appended ∙ ap (λ x. x ++ p.bytes) none))
     (played m rest p.end p.bytes few lines member (subst (λ (t : State). Plays t rest p.end p.bytes) first p.plays))
 
-pub returns-then-too-long : goal.returns-then-too-long
-returns-then-too-long c =
+pub returns-then-too_long : goal.returns-then-too_long
+returns-then-too_long c =
     record {
       bytes =
           printed-as c.args.input.now (refusal_bytes 1) c.refused.result c.refused.ensures
-          (too_long (ltb-true max_lines (length (lines_of c.args.input.now)) (sym c.if-too-long.ensures)));
+          (too_long (ltb-true max_lines (length (lines_of c.args.input.now)) (sym c.if-too_long.ensures)));
     }
 
-pub returns-in-default : goal.returns-in-default
-returns-in-default c =
-    record { bytes = printed-as c.args.input.now (refusal_bytes 1) c.refused-in-default.result c.refused-in-default.ensures (empty c.in-default.ensures) }
+pub returns-in_default : goal.returns-in_default
+returns-in_default c =
+    record { bytes = printed-as c.args.input.now (refusal_bytes 1) c.refused-in_default.result c.refused-in_default.ensures (empty c.in_default.ensures) }
 
-pub returns-in-default-read-founder : goal.returns-in-default-read-founder
-returns-in-default-read-founder c =
+pub returns-in_default-read_founder : goal.returns-in_default-read_founder
+returns-in_default-read_founder c =
     record {
       bytes =
-          printed-as c.args.input.now (refusal_bytes 1) c.refused-in-default-read-founder.result c.refused-in-default-read-founder.ensures
-          (no-founder c.in-Some.first.now (lines_of c.in-Some.rest.now) (ltb-false max_lines (length (lines_of c.args.input.now)) (sym c.if-too-long.ensures))
-          c.in-Some.ensures c.in-default-read-founder.ensures);
+          printed-as c.args.input.now (refusal_bytes 1) c.refused-in_default-read_founder.result c.refused-in_default-read_founder.ensures
+          (no-founder c.in-Some.first.now (lines_of c.in-Some.rest.now) (ltb-false max_lines (length (lines_of c.args.input.now)) (sym c.if-too_long.ensures))
+          c.in-Some.ensures c.in_default-read_founder.ensures);
     }
 
 pub returns-then-founder : goal.returns-then-founder
@@ -48,17 +48,17 @@ returns-then-founder c =
     record {
       bytes =
           printed-as c.args.input.now (refusal_bytes 8) c.refused-then-founder.result c.refused-then-founder.ensures
-          (bad-founder c.in-Some-read-founder.founder (lines_of c.in-Some.rest.now) (ltb-false max_lines (length (lines_of c.args.input.now)) (sym c.if-too-long.ensures))
-          (c.in-Some.ensures ∙ ap (λ x. x ∷ lines_of c.in-Some.rest.now) c.in-Some-read-founder.ensures.0) c.if-founder.true);
+          (bad-founder c.in-Some-read_founder.founder (lines_of c.in-Some.rest.now) (ltb-false max_lines (length (lines_of c.args.input.now)) (sym c.if-too_long.ensures))
+          (c.in-Some.ensures ∙ ap (λ x. x ∷ lines_of c.in-Some.rest.now) c.in-Some-read_founder.ensures.0) c.if-founder.true);
     }
 
 pub returns : goal.returns
 returns c =
     record {
       bytes =
-          printed-all c.args.input.now (vec_items c.new-out.result) (vec_items c.play-lines.new.out) c.in-Some-read-founder.founder (lines_of c.in-Some.rest.now) _
-          (ltb-false max_lines (length (lines_of c.args.input.now)) (sym c.if-too-long.ensures))
-          (c.in-Some.ensures ∙ ap (λ x. x ∷ lines_of c.in-Some.rest.now) c.in-Some-read-founder.ensures.0)
-          (omega (arith, c.in-Some-read-founder.ensures.1, c.if-founder.false))
-          (ap (λ t. record { tree = t; epoch = 0 }) c.in-ok-tree.ensures) c.new-out.ensures.items (c.in-ok-play-lines.ensures refl);
+          printed-all c.args.input.now (vec_items c.new-out.result) (vec_items c.play_lines.new.out) c.in-Some-read_founder.founder (lines_of c.in-Some.rest.now) _
+          (ltb-false max_lines (length (lines_of c.args.input.now)) (sym c.if-too_long.ensures))
+          (c.in-Some.ensures ∙ ap (λ x. x ∷ lines_of c.in-Some.rest.now) c.in-Some-read_founder.ensures.0)
+          (omega (arith, c.in-Some-read_founder.ensures.1, c.if-founder.false))
+          (ap (λ t. record { tree = t; epoch = 0 }) c.in_ok-tree.ensures) c.new-out.ensures.items (c.in_ok-play_lines.ensures refl);
     }

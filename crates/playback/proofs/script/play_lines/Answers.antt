@@ -9,4 +9,4 @@ loop-line-init c = none_yet (state_of c.args.station.now) c.args.input.now (vec_
 pub loop-line-preserved : goal.loop-line-preserved
 loop-line-preserved c =
     one_more (state_of c.args.station.now) c.args.input.now c.loop-line.rest.now c.in-Some.line.now c.in-Some.behind.now (state_of c.loop-line.station) (state_of c.answer.new.station)
-    (vec_items c.args.out.now) (vec_items c.loop-line.out) (vec_items c.answer.new.out) c.loop-line.invariant c.in-Some.ensures (c.in-ok-answer.ensures refl)
+    (vec_items c.args.out.now) (vec_items c.loop-line.out) (vec_items c.answer.new.out) c.loop-line.invariant c.in-Some.ensures (c.in_ok-answer.ensures refl)

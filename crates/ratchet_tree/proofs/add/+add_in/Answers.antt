@@ -52,34 +52,34 @@ returns-then-height-eq0 t c =
     ∙ ap leaf c.seat.ensures
     ∙ ap (added c.args.member.0 c.args.key) (sym (tree-first c.args.height c.args.nodes.now c.index-nodes-0.result c.if-height-eq0.true c.requires.0))
 
-pub invariant-of-left : goal.invariant-of-left
-invariant-of-left t c = (left-span c.args.height c.args.nodes.now c.if-height-eq0.false c.requires.0 c.left-half.ensures.value, (omega arith, tt))
+pub invariant_of-left : goal.invariant_of-left
+invariant_of-left t c = (left-span c.args.height c.args.nodes.now c.if-height-eq0.false c.requires.0 c.left_half.ensures.value, (omega arith, tt))
 
-pub invariant-of-right : goal.invariant-of-right
-invariant-of-right t c = (right-span c.args.height c.args.nodes.now c.if-height-eq0.false c.requires.0 c.right-half.ensures.value, (omega arith, tt))
+pub invariant_of-right : goal.invariant_of-right
+invariant_of-right t c = (right-span c.args.height c.args.nodes.now c.if-height-eq0.false c.requires.0 c.right_half.ensures.value, (omega arith, tt))
 
 pub bounds-nodes-middle : goal.bounds-nodes-middle
 bounds-nodes-middle t c = middle-within c.args.height c.args.nodes.now c.if-height-eq0.false c.requires.0
 
-pub returns-then-not-is-full : goal.returns-then-not-is-full
-returns-then-not-is-full t c =
+pub returns-then-not-is_full : goal.returns-then-not-is_full
+returns-then-not-is_full t c =
     λ k. in_left c.args.height c.args.nodes.now c.if-height-eq0.false c.requires.0 c.args.member.0 c.args.key
-    c.note-unmerged.new.node c.index-nodes-middle.result (c.in-ok-note-unmerged.ensures refl)
-    c.add-in.new.nodes c.add-in.auto.nodes (c.add-in.ensures k)
-    (full-left c.args.height c.args.nodes.now c.if-height-eq0.false c.requires.0 c.args.member.0 c.args.key c.left-half.ensures.value c.if-not-is-full.ensures)
+    c.note_unmerged.new.node c.index-nodes-middle.result (c.in_ok-note_unmerged.ensures refl)
+    c.add_in.new.nodes c.add_in.auto.nodes (c.add_in.ensures k)
+    (full-left c.args.height c.args.nodes.now c.if-height-eq0.false c.requires.0 c.args.member.0 c.args.key c.left_half.ensures.value c.if-not-is_full.ensures)
 
-pub returns-then-not-is-full-2 : goal.returns-then-not-is-full-2
-returns-then-not-is-full-2 t c =
+pub returns-then-not-is_full-2 : goal.returns-then-not-is_full-2
+returns-then-not-is_full-2 t c =
     λ k. in_right c.args.height c.args.nodes.now c.if-height-eq0.false c.requires.0 c.args.member.0 c.args.key
-    c.note-unmerged-then-not-is-full-2.new.node c.index-nodes-middle-then-not-is-full-2.result (c.in-ok-note-unmerged-2.ensures refl)
-    c.add-in-then-not-is-full-2.new.nodes c.add-in-then-not-is-full-2.auto.nodes (c.add-in-then-not-is-full-2.ensures k)
-    (full-left c.args.height c.args.nodes.now c.if-height-eq0.false c.requires.0 c.args.member.0 c.args.key c.left-half.ensures.value c.if-not-is-full.ensures)
-    (full-right c.args.height c.args.nodes.now c.if-height-eq0.false c.requires.0 c.args.member.0 c.args.key c.right-half.ensures.value c.if-not-is-full-2.ensures)
+    c.note_unmerged-then-not-is_full-2.new.node c.index-nodes-middle-then-not-is_full-2.result (c.in_ok-note_unmerged-2.ensures refl)
+    c.add_in-then-not-is_full-2.new.nodes c.add_in-then-not-is_full-2.auto.nodes (c.add_in-then-not-is_full-2.ensures k)
+    (full-left c.args.height c.args.nodes.now c.if-height-eq0.false c.requires.0 c.args.member.0 c.args.key c.left_half.ensures.value c.if-not-is_full.ensures)
+    (full-right c.args.height c.args.nodes.now c.if-height-eq0.false c.requires.0 c.args.member.0 c.args.key c.right_half.ensures.value c.if-not-is_full-2.ensures)
 
 pub returns : goal.returns
 returns t c =
     λ _. start-tree c.args.height c.args.nodes.now c.if-height-eq0.false c.requires.0
     ∙ sym (added-nowhere c.args.member.0 c.args.key _ _ _
-    (full-left c.args.height c.args.nodes.now c.if-height-eq0.false c.requires.0 c.args.member.0 c.args.key c.left-half.ensures.value c.if-not-is-full.ensures)
-    (full-right c.args.height c.args.nodes.now c.if-height-eq0.false c.requires.0 c.args.member.0 c.args.key c.right-half.ensures.value c.if-not-is-full-2.ensures))
+    (full-left c.args.height c.args.nodes.now c.if-height-eq0.false c.requires.0 c.args.member.0 c.args.key c.left_half.ensures.value c.if-not-is_full.ensures)
+    (full-right c.args.height c.args.nodes.now c.if-height-eq0.false c.requires.0 c.args.member.0 c.args.key c.right_half.ensures.value c.if-not-is_full-2.ensures))
     ∙ ap (added c.args.member.0 c.args.key) (sym (start-tree c.args.height c.args.nodes.now c.if-height-eq0.false c.requires.0))

@@ -48,40 +48,40 @@ returns-then-height-eq0 t c =
 pub bounds-nodes-middle : goal.bounds-nodes-middle
 bounds-nodes-middle t c = middle-within c.args.height c.args.nodes.now c.if-height-eq0.false c.requires.0
 
-pub remove-in-requires : goal.remove-in-requires
+pub remove_in-requires : goal.remove_in-requires
 unfolding blanked
-remove-in-requires t c =
+remove_in-requires t c =
     let start = blanked-cut c.args.height c.args.nodes.now c.if-height-eq0.false c.requires.0 in
     (omega arith, (left-long c.args.height c.args.nodes.now c.if-height-eq0.false c.requires.0 start, omega arith))
 
-pub slice-bounds-remove-in-count-then-is-seated : goal.slice-bounds-remove-in-count-then-is-seated
+pub slice_bounds-remove_in-count-then-is_seated : goal.slice_bounds-remove_in-count-then-is_seated
 unfolding blanked
-slice-bounds-remove-in-count-then-is-seated t c =
-    let half = halfway-cut c.args.height c.args.nodes.now c.if-height-eq0.false c.requires.0 c.remove-in.new.nodes c.remove-in.auto.nodes in
+slice_bounds-remove_in-count-then-is_seated t c =
+    let half = halfway-cut c.args.height c.args.nodes.now c.if-height-eq0.false c.requires.0 c.remove_in.new.nodes c.remove_in.auto.nodes in
     past-middle c.args.height c.args.nodes.now c.if-height-eq0.false c.requires.0 half
 
-pub slice-bounds-remove-in-start-then-is-seated : goal.slice-bounds-remove-in-start-then-is-seated
+pub slice_bounds-remove_in-start-then-is_seated : goal.slice_bounds-remove_in-start-then-is_seated
 unfolding blanked
-slice-bounds-remove-in-start-then-is-seated t c =
-    let half = halfway-cut c.args.height c.args.nodes.now c.if-height-eq0.false c.requires.0 c.remove-in.new.nodes c.remove-in.auto.nodes in
+slice_bounds-remove_in-start-then-is_seated t c =
+    let half = halfway-cut c.args.height c.args.nodes.now c.if-height-eq0.false c.requires.0 c.remove_in.new.nodes c.remove_in.auto.nodes in
     past-middle c.args.height c.args.nodes.now c.if-height-eq0.false c.requires.0 half
 
-pub remove-in-requires-then-is-seated : goal.remove-in-requires-then-is-seated
+pub remove_in-requires-then-is_seated : goal.remove_in-requires-then-is_seated
 unfolding blanked
-remove-in-requires-then-is-seated t c =
-    let half = halfway-cut c.args.height c.args.nodes.now c.if-height-eq0.false c.requires.0 c.remove-in.new.nodes c.remove-in.auto.nodes in
+remove_in-requires-then-is_seated t c =
+    let half = halfway-cut c.args.height c.args.nodes.now c.if-height-eq0.false c.requires.0 c.remove_in.new.nodes c.remove_in.auto.nodes in
     (omega arith, (right-long c.args.height c.args.nodes.now c.if-height-eq0.false c.requires.0 half, omega arith))
 
-pub returns-then-is-seated : goal.returns-then-is-seated
+pub returns-then-is_seated : goal.returns-then-is_seated
 unfolding blanked
-returns-then-is-seated t c =
-    written c.args.height c.args.nodes.now c.if-height-eq0.false c.requires.0 c.remove-in.new.nodes c.remove-in.auto.nodes
-    c.remove-in-then-is-seated.new.nodes c.remove-in-then-is-seated.auto.nodes
-    c.args.member.0 c.remove-in.ensures c.remove-in-then-is-seated.ensures (sym c.if-is-seated.ensures)
+returns-then-is_seated t c =
+    written c.args.height c.args.nodes.now c.if-height-eq0.false c.requires.0 c.remove_in.new.nodes c.remove_in.auto.nodes
+    c.remove_in-then-is_seated.new.nodes c.remove_in-then-is_seated.auto.nodes
+    c.args.member.0 c.remove_in.ensures c.remove_in-then-is_seated.ensures (sym c.if-is_seated.ensures)
 
-pub returns-else-is-seated : goal.returns-else-is-seated
-returns-else-is-seated t c =
+pub returns-else-is_seated : goal.returns-else-is_seated
+returns-else-is_seated t c =
     let start = start-tree c.args.height c.args.nodes.now c.if-height-eq0.false c.requires.0 in
     start
-    ∙ sym (removed-absent c.args.member.0 _ _ _ (ap (seated c.args.member.0) (sym start) ∙ sym c.if-is-seated.ensures))
+    ∙ sym (removed-absent c.args.member.0 _ _ _ (ap (seated c.args.member.0) (sym start) ∙ sym c.if-is_seated.ensures))
     ∙ ap (removed c.args.member.0) (sym start)

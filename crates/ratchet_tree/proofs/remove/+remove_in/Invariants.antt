@@ -1,4 +1,4 @@
 use Rattle.ratchet_tree.proofs.remove.+remove_in.Given as goal
 
-abbrev pub decreases-remove-in : goal.decreases-remove-in
-decreases-remove-in l = l.height
+abbrev pub decreases-remove_in : goal.decreases-remove_in
+decreases-remove_in l = l.height

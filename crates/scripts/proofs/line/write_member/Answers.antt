@@ -6,7 +6,7 @@ use Rattle.scripts.proofs.line.write_member.Goals as goal
 pub returns : goal.returns
 returns c =
     let old = vec_items c.args.out.now in
-    let mid = vec_items c.extend-from-slice.new.self in
-    let new = vec_items c.write-number.new.out in
+    let mid = vec_items c.extend_from_slice.new.self in
+    let new = vec_items c.write_number.new.out in
     let digits = decimal c.args.member.0 in
-    appends-then c.write-number.result old mid new c.args.front.now digits (search rules) (appends-whole c.write-number.result mid new digits (search rules))
+    appends-then c.write_number.result old mid new c.args.front.now digits (search rules) (appends-whole c.write_number.result mid new digits (search rules))

@@ -3,8 +3,8 @@ use Rattle.scripts.specs.Lines.{lines_of}
 use Rattle.scripts.proofs.Cuts.{lines_of-cut, lines_of-last, lines_of-empty}
 use Rattle.scripts.proofs.lines.next_line.Goals as goal
 
-pub returns-then-is-empty : goal.returns-then-is-empty
-returns-then-is-empty c = lines_of-empty c.args.input.now (search rules)
+pub returns-then-is_empty : goal.returns-then-is_empty
+returns-then-is_empty c = lines_of-empty c.args.input.now (search rules)
 
 pub returns-in-Some : goal.returns-in-Some
 returns-in-Some c = let e = c.in-Some.ensures in ap lines_of e.0 ∙ lines_of-cut _ _ e.1

@@ -11,6 +11,6 @@ returns c =
     record {
       bytes =
           appends-as (ap refusal_text is)
-          (appends-two (vec_items c.args.out.now) (decimal c.from.result) c.in-ok-write-number.ensures.items
-          (record { items = λ k. c.in-ok-push.ensures.items }));
+          (appends-two (vec_items c.args.out.now) (decimal c.from.result) c.in_ok-write_number.ensures.items
+          (record { items = λ k. c.in_ok-push.ensures.items }));
     }

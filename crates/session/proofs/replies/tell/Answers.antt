@@ -6,5 +6,5 @@ use Rattle.session.proofs.replies.tell.Goals as goal
 
 pub returns : goal.returns
 returns c =
-    appends-two (vec_items c.args.out.now) (orders_text (map order_of c.args.orders.now)) (c.in-ok-write-orders.ensures.items refl)
-    (record { items = λ k. c.in-ok-push.ensures.items })
+    appends-two (vec_items c.args.out.now) (orders_text (map order_of c.args.orders.now)) (c.in_ok-write_orders.ensures.items refl)
+    (record { items = λ k. c.in_ok-push.ensures.items })

@@ -6,5 +6,5 @@ use Rattle.session.proofs.replies.turn_away.Goals as goal
 
 pub returns : goal.returns
 returns c =
-    appends-two (vec_items c.args.out.now) (refusal_text (number_of c.args.refusal)) (c.in-ok-refuse.ensures.bytes.items refl)
-    (record { items = λ k. c.in-ok-push.ensures.items })
+    appends-two (vec_items c.args.out.now) (refusal_text (number_of c.args.refusal)) (c.in_ok-refuse.ensures.bytes.items refl)
+    (record { items = λ k. c.in_ok-push.ensures.items })

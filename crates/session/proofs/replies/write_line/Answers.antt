@@ -6,5 +6,5 @@ use Rattle.session.proofs.replies.write_line.Goals as goal
 
 pub returns : goal.returns
 returns c =
-    appends-two (vec_items c.args.out.now) (order_text (order_of c.args.order)) (c.in-ok-write-order.ensures.bytes.items refl)
-    (record { items = λ k. c.in-ok-push.ensures.items })
+    appends-two (vec_items c.args.out.now) (order_text (order_of c.args.order)) (c.in_ok-write_order.ensures.bytes.items refl)
+    (record { items = λ k. c.in_ok-push.ensures.items })

@@ -17,7 +17,7 @@ loop-order-preserved c =
     let so_far : List ℕ = orders_text (map order_of (take c.loop-order.order-index c.args.orders.now)) in
     let none : Order = Draw (record { 0 = 0 }) in
     let line : List ℕ = order_text (order_of (get_or c.args.orders.now c.loop-order.order-index none)) ++ 10 ∷ [] in
-    c.in-ok-write-line.ensures.items refl
+    c.in_ok-write_line.ensures.items refl
     ∙ ap (λ l. l ++ line) c.loop-order.invariant
     ∙ append_assoc before so_far line
     ∙ ap (λ l. before ++ l) (sym (text-more c.args.orders.now c.loop-order.order-index none c.loop-order-test.true))

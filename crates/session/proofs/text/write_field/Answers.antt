@@ -5,4 +5,4 @@ use Rattle.session.proofs.text.write_field.Goals as goal
 
 pub returns : goal.returns
 returns c =
-    appends-two (vec_items c.args.out.now) (32 ∷ []) c.in-ok-push.ensures.items (appends-slice c.write-number.ensures.items)
+    appends-two (vec_items c.args.out.now) (32 ∷ []) c.in_ok-push.ensures.items (appends-slice c.write_number.ensures.items)

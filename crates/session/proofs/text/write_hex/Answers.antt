@@ -12,7 +12,7 @@ loop-byte-preserved c =
     let before : List ℕ = vec_items c.args.out.now in
     let so_far : List ℕ = hex_text (take c.loop-byte.byte-index c.args.bytes.now) in
     let byte : ℕ = get_or c.args.bytes.now c.loop-byte.byte-index 0 in
-    c.in-ok-write-hex-byte.ensures.items refl
+    c.in_ok-write_hex_byte.ensures.items refl
     ∙ ap (λ l. l ++ hex_byte byte) c.loop-byte.invariant
     ∙ append_assoc before so_far (hex_byte byte)
     ∙ ap (λ l. before ++ l) (sym (hex-more c.args.bytes.now c.loop-byte.byte-index 0 c.loop-byte-test.true))

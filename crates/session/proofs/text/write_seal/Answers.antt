@@ -7,5 +7,5 @@ pub returns : goal.returns
 returns c =
     let is : c.from.result ≡ c.args.from.0 = search rules in
     appends-as (ap (λ (n : ℕ). one_number (codes "seal") n ++ 32 ∷ hex_text c.args.half.now) is)
-    (appends-two (vec_items c.args.out.now) (one_number (codes "seal") c.from.result) (c.in-ok-write-one.ensures.items refl)
-    (appends-two (vec_items c.write-one.new.out) (32 ∷ []) c.in-ok-push.ensures.items c.write-hex.ensures))
+    (appends-two (vec_items c.args.out.now) (one_number (codes "seal") c.from.result) (c.in_ok-write_one.ensures.items refl)
+    (appends-two (vec_items c.write_one.new.out) (32 ∷ []) c.in_ok-push.ensures.items c.write_hex.ensures))

@@ -7,4 +7,4 @@ pub returns : goal.returns
 returns c =
     let is : c.from.result ≡ c.args.into.0 = search rules in
     appends-as (ap (λ (n : ℕ). three_numbers c.args.word.now c.args.number c.args.slot.0 n) is)
-    (appends-two (vec_items c.args.out.now) (two_numbers c.args.word.now c.args.number c.args.slot.0) (c.in-ok-write-two.ensures.items refl) c.write-field.ensures)
+    (appends-two (vec_items c.args.out.now) (two_numbers c.args.word.now c.args.number c.args.slot.0) (c.in_ok-write_two.ensures.items refl) c.write_field.ensures)

@@ -7,4 +7,4 @@ pub returns : goal.returns
 returns c =
     let is : c.from.result ≡ c.args.slot.0 = search rules in
     appends-as (ap (λ (n : ℕ). two_numbers c.args.word.now c.args.number n) is)
-    (appends-two (vec_items c.args.out.now) (one_number c.args.word.now c.args.number) (c.in-ok-write-one.ensures.items refl) c.write-field.ensures)
+    (appends-two (vec_items c.args.out.now) (one_number c.args.word.now c.args.number) (c.in_ok-write_one.ensures.items refl) c.write_field.ensures)

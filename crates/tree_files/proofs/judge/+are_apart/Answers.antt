@@ -8,12 +8,12 @@ use Rattle.tree_files.proofs.judge.+are_apart.Goals as goal
 
 pub returns-in-Leaf : goal.returns-in-Leaf
 unfolding apart
-returns-in-Leaf t c = c.is-leaf-apart.ensures ∙ ap (λ (t : Tree PublicKey). apart t (part_tree c.args.other)) (sym c.in-Leaf.ensures.1)
+returns-in-Leaf t c = c.is_leaf_apart.ensures ∙ ap (λ (t : Tree PublicKey). apart t (part_tree c.args.other)) (sym c.in-Leaf.ensures.1)
 
-pub returns-else-are-apart : goal.returns-else-are-apart
+pub returns-else-are_apart : goal.returns-else-are_apart
 unfolding apart
-returns-else-are-apart t c = and_first (apart (part_tree c.in-Parent.right) (part_tree c.args.other)) c.are-apart.ensures c.if-are-apart.false ∙ ap (λ (t : Tree PublicKey). apart t (part_tree c.args.other)) (sym c.in-Parent.ensures.tree)
+returns-else-are_apart t c = and_first (apart (part_tree c.in-Parent.right) (part_tree c.args.other)) c.are_apart.ensures c.if-are_apart.false ∙ ap (λ (t : Tree PublicKey). apart t (part_tree c.args.other)) (sym c.in-Parent.ensures.tree)
 
-pub returns-then-are-apart : goal.returns-then-are-apart
+pub returns-then-are_apart : goal.returns-then-are_apart
 unfolding apart
-returns-then-are-apart t c = and_second c.are-apart.ensures c.if-are-apart.true c.are-apart-then-are-apart.ensures ∙ ap (λ (t : Tree PublicKey). apart t (part_tree c.args.other)) (sym c.in-Parent.ensures.tree)
+returns-then-are_apart t c = and_second c.are_apart.ensures c.if-are_apart.true c.are_apart-then-are_apart.ensures ∙ ap (λ (t : Tree PublicKey). apart t (part_tree c.args.other)) (sym c.in-Parent.ensures.tree)

@@ -8,12 +8,12 @@ use Rattle.tree_files.proofs.judge.+has_merged.Goals as goal
 
 pub returns-in-Leaf : goal.returns-in-Leaf
 unfolding some_merged
-returns-in-Leaf t c = c.is-leaf-merged.ensures ∙ ap (some_merged (numbers c.args.unmerged.now)) (sym c.in-Leaf.ensures.1)
+returns-in-Leaf t c = c.is_leaf_merged.ensures ∙ ap (some_merged (numbers c.args.unmerged.now)) (sym c.in-Leaf.ensures.1)
 
-pub returns-then-has-merged : goal.returns-then-has-merged
+pub returns-then-has_merged : goal.returns-then-has_merged
 unfolding some_merged
-returns-then-has-merged t c = or-first (some_merged (numbers c.args.unmerged.now) (part_tree c.in-Parent.right)) c.has-merged.ensures c.if-has-merged.true ∙ ap (some_merged (numbers c.args.unmerged.now)) (sym c.in-Parent.ensures.tree)
+returns-then-has_merged t c = or-first (some_merged (numbers c.args.unmerged.now) (part_tree c.in-Parent.right)) c.has_merged.ensures c.if-has_merged.true ∙ ap (some_merged (numbers c.args.unmerged.now)) (sym c.in-Parent.ensures.tree)
 
-pub returns-else-has-merged : goal.returns-else-has-merged
+pub returns-else-has_merged : goal.returns-else-has_merged
 unfolding some_merged
-returns-else-has-merged t c = or-second c.has-merged.ensures c.if-has-merged.false c.has-merged-else-has-merged.ensures ∙ ap (some_merged (numbers c.args.unmerged.now)) (sym c.in-Parent.ensures.tree)
+returns-else-has_merged t c = or-second c.has_merged.ensures c.if-has_merged.false c.has_merged-else-has_merged.ensures ∙ ap (some_merged (numbers c.args.unmerged.now)) (sym c.in-Parent.ensures.tree)

@@ -9,24 +9,24 @@ use Rattle.tree_files.proofs.judge.+is_consistent.Goals as goal
 pub returns-in-Leaf : goal.returns-in-Leaf
 returns-in-Leaf t c = sym (consistent-leaf (part_tree c.args.part) (leaf_of c.in-Leaf.field-0.now) c.in-Leaf.ensures.1)
 
-pub returns-then-not-are-apart : goal.returns-then-not-are-apart
-returns-then-not-are-apart t c =
+pub returns-then-not-are_apart : goal.returns-then-not-are_apart
+returns-then-not-are_apart t c =
     sym (halves-meet (part_tree c.args.part) (parent_of c.in-Parent.node.now) (part_tree c.in-Parent.left) (part_tree c.in-Parent.right) c.in-Parent.ensures.tree
-    (sym c.are-apart.ensures ∙ c.if-not-are-apart.true))
+    (sym c.are_apart.ensures ∙ c.if-not-are_apart.true))
 
-pub returns-then-not-is-merging : goal.returns-then-not-is-merging
-returns-then-not-is-merging t c =
+pub returns-then-not-is_merging : goal.returns-then-not-is_merging
+returns-then-not-is_merging t c =
     sym (parent-fails (part_tree c.args.part) (parent_of c.in-Parent.node.now) (part_tree c.in-Parent.left) (part_tree c.in-Parent.right) c.in-Parent.ensures.tree
-    (sym c.are-apart.ensures ∙ c.if-not-are-apart.false) (sym c.is-merging.ensures ∙ c.if-not-is-merging.true))
+    (sym c.are_apart.ensures ∙ c.if-not-are_apart.false) (sym c.is_merging.ensures ∙ c.if-not-is_merging.true))
 
-pub returns-then-is-consistent : goal.returns-then-is-consistent
-returns-then-is-consistent t c =
-    and_second c.is-consistent.ensures c.if-is-consistent.true c.is-consistent-then-is-consistent.ensures
+pub returns-then-is_consistent : goal.returns-then-is_consistent
+returns-then-is_consistent t c =
+    and_second c.is_consistent.ensures c.if-is_consistent.true c.is_consistent-then-is_consistent.ensures
     ∙ sym (parent-holds (part_tree c.args.part) (parent_of c.in-Parent.node.now) (part_tree c.in-Parent.left) (part_tree c.in-Parent.right) c.in-Parent.ensures.tree
-    (sym c.are-apart.ensures ∙ c.if-not-are-apart.false) (sym c.is-merging.ensures ∙ c.if-not-is-merging.false))
+    (sym c.are_apart.ensures ∙ c.if-not-are_apart.false) (sym c.is_merging.ensures ∙ c.if-not-is_merging.false))
 
-pub returns-else-is-consistent : goal.returns-else-is-consistent
-returns-else-is-consistent t c =
-    and_first (consistent (part_tree c.in-Parent.right)) c.is-consistent.ensures c.if-is-consistent.false
+pub returns-else-is_consistent : goal.returns-else-is_consistent
+returns-else-is_consistent t c =
+    and_first (consistent (part_tree c.in-Parent.right)) c.is_consistent.ensures c.if-is_consistent.false
     ∙ sym (parent-holds (part_tree c.args.part) (parent_of c.in-Parent.node.now) (part_tree c.in-Parent.left) (part_tree c.in-Parent.right) c.in-Parent.ensures.tree
-    (sym c.are-apart.ensures ∙ c.if-not-are-apart.false) (sym c.is-merging.ensures ∙ c.if-not-is-merging.false))
+    (sym c.are_apart.ensures ∙ c.if-not-are_apart.false) (sym c.is_merging.ensures ∙ c.if-not-is_merging.false))

@@ -6,12 +6,12 @@ use Rattle.tree_files.proofs.judge.+is_numbered.Goals as goal
 
 pub returns-in-Leaf : goal.returns-in-Leaf
 unfolding numbered
-returns-in-Leaf t c = c.is-leaf-numbered.ensures ∙ ap numbered (sym c.in-Leaf.ensures.1)
+returns-in-Leaf t c = c.is_leaf_numbered.ensures ∙ ap numbered (sym c.in-Leaf.ensures.1)
 
-pub returns-else-is-numbered : goal.returns-else-is-numbered
+pub returns-else-is_numbered : goal.returns-else-is_numbered
 unfolding numbered
-returns-else-is-numbered t c = and_first (numbered (part_tree c.in-Parent.right)) c.is-numbered.ensures c.if-is-numbered.false ∙ ap numbered (sym c.in-Parent.ensures.tree)
+returns-else-is_numbered t c = and_first (numbered (part_tree c.in-Parent.right)) c.is_numbered.ensures c.if-is_numbered.false ∙ ap numbered (sym c.in-Parent.ensures.tree)
 
-pub returns-then-is-numbered : goal.returns-then-is-numbered
+pub returns-then-is_numbered : goal.returns-then-is_numbered
 unfolding numbered
-returns-then-is-numbered t c = and_second c.is-numbered.ensures c.if-is-numbered.true c.is-numbered-then-is-numbered.ensures ∙ ap numbered (sym c.in-Parent.ensures.tree)
+returns-then-is_numbered t c = and_second c.is_numbered.ensures c.if-is_numbered.true c.is_numbered-then-is_numbered.ensures ∙ ap numbered (sym c.in-Parent.ensures.tree)

@@ -1,4 +1,4 @@
 use Rattle.tree_files.proofs.judge.+is_numbered.Given as goal
 
-abbrev pub decreases-is-numbered : goal.decreases-is-numbered
-decreases-is-numbered l = l.part.height
+abbrev pub decreases-is_numbered : goal.decreases-is_numbered
+decreases-is_numbered l = l.part.height

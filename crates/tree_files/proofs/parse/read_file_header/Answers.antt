@@ -8,4 +8,4 @@ returns c =
     let byte : (i : ℕ) → get_or c.args.bytes.now i 0 < 256 = λ i. search rules in
     let tag : get_or c.args.bytes.now 0 0 ≡ 6 = search rules in
     let shallow : get_or c.args.bytes.now 5 0 ≤ 10 = omega arith in
-    ((c.from-be-bytes.type-inv, shallow), read-file-head c.args.bytes.now c.from-be-bytes.result six byte tag c.from-be-bytes.ensures)
+    ((c.from_be_bytes.type_inv, shallow), read-file-head c.args.bytes.now c.from_be_bytes.result six byte tag c.from_be_bytes.ensures)

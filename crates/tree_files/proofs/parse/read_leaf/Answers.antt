@@ -10,28 +10,28 @@ returns-in-0 c =
     let tag : get_or c.args.bytes.now 0 0 ≡ 0 = search rules in
     (tt, tagged c.args.bytes.now 0 one tag)
 
-pub returns-in-default-read-u16 : goal.returns-in-default-read-u16
-returns-in-default-read-u16 c = λ x rest f e.
+pub returns-in_default-read_u16 : goal.returns-in_default-read_u16
+returns-in_default-read_u16 c = λ x rest f e.
     let one : 1 ≤ length c.args.bytes.now = search rules in
     let tag : get_or c.args.bytes.now 0 0 ≡ 1 = search rules in
     let a = leaf-is c.args.bytes.now (take (length c.args.bytes.now - 1) (drop 1 c.args.bytes.now)) x rest (tagged c.args.bytes.now 1 one tag) f e in
-    c.in-default-read-u16.ensures.value a.member (key_bytes a.key ++ rest) a.number a.bytes
+    c.in_default-read_u16.ensures.value a.member (key_bytes a.key ++ rest) a.number a.bytes
 
-pub returns-in-default-read-key : goal.returns-in-default-read-key
-returns-in-default-read-key c = λ x rest f e.
+pub returns-in_default-read_key : goal.returns-in_default-read_key
+returns-in_default-read_key c = λ x rest f e.
     let one : 1 ≤ length c.args.bytes.now = search rules in
     let tag : get_or c.args.bytes.now 0 0 ≡ 1 = search rules in
     let a = leaf-is c.args.bytes.now (take (length c.args.bytes.now - 1) (drop 1 c.args.bytes.now)) x rest (tagged c.args.bytes.now 1 one tag) f e in
     let got = c.in-Some.ensures.value in
     let p = peel-16 c.in-Some.number a.member c.in-Some.rest.now (key_bytes a.key ++ rest) got.0 a.number (sym got.1 ∙ a.bytes) in
-    c.in-default-read-key.ensures.value a.key rest a.half p.1
+    c.in_default-read_key.ensures.value a.key rest a.half p.1
 
-pub returns-in-Some-read-key : goal.returns-in-Some-read-key
-returns-in-Some-read-key c =
+pub returns-in-Some-read_key : goal.returns-in-Some-read_key
+returns-in-Some-read_key c =
     let one : 1 ≤ length c.args.bytes.now = search rules in
     let tag : get_or c.args.bytes.now 0 0 ≡ 1 = search rules in
     let member = c.in-Some.ensures.value in
-    let key = c.in-Some-read-key.ensures.value in (
+    let key = c.in-Some-read_key.ensures.value in (
       (member.0, key.0),
       tagged c.args.bytes.now 1 one tag
           ∙ ap (λ (l : List ℕ). 1 ∷ l) (member.1 ∙ ap (λ (l : List ℕ). be16 c.in-Some.number ++ l) key.1),

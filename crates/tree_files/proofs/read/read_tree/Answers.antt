@@ -3,6 +3,6 @@ use Rattle.tree_files.specs.Verdict.{file_of}
 use Rattle.tree_files.proofs.Verdicts.{breaks-a-rule}
 use Rattle.tree_files.proofs.read.read_tree.Goals as goal
 
-pub returns-then-not-is-well-formed : goal.returns-then-not-is-well-formed
-returns-then-not-is-well-formed c =
-    record { value = (Some (file_of c.in-Ok.file), c.in-Ok.ensures.tree, breaks-a-rule (file_of c.in-Ok.file) (sym c.is-well-formed.ensures.value ∙ c.if-not-is-well-formed.true)) }
+pub returns-then-not-is_well_formed : goal.returns-then-not-is_well_formed
+returns-then-not-is_well_formed c =
+    record { value = (Some (file_of c.in-Ok.file), c.in-Ok.ensures.tree, breaks-a-rule (file_of c.in-Ok.file) (sym c.is_well_formed.ensures.value ∙ c.if-not-is_well_formed.true)) }

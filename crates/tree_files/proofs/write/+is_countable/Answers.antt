@@ -9,19 +9,19 @@ use Rattle.tree_files.proofs.write.+is_countable.Goals as goal
 pub returns-in-Leaf : goal.returns-in-Leaf
 returns-in-Leaf t c = sym (countable-leaf (part_tree c.args.part) (leaf_of c.in-Leaf.field-0.now) c.in-Leaf.ensures.1)
 
-pub returns-then-not-is-countable-at : goal.returns-then-not-is-countable-at
-returns-then-not-is-countable-at t c =
+pub returns-then-not-is_countable_at : goal.returns-then-not-is_countable_at
+returns-then-not-is_countable_at t c =
     sym (parent-uncountable (part_tree c.args.part) (parent_of c.in-Parent.node.now) (part_tree c.in-Parent.left) (part_tree c.in-Parent.right) c.in-Parent.ensures.tree
-    (sym c.is-countable-at.ensures ∙ c.if-not-is-countable-at.true))
+    (sym c.is_countable_at.ensures ∙ c.if-not-is_countable_at.true))
 
-pub returns-then-is-countable : goal.returns-then-is-countable
-returns-then-is-countable t c =
-    and_second c.is-countable.ensures c.if-is-countable.true c.is-countable-then-is-countable.ensures
+pub returns-then-is_countable : goal.returns-then-is_countable
+returns-then-is_countable t c =
+    and_second c.is_countable.ensures c.if-is_countable.true c.is_countable-then-is_countable.ensures
     ∙ sym (parent-countable (part_tree c.args.part) (parent_of c.in-Parent.node.now) (part_tree c.in-Parent.left) (part_tree c.in-Parent.right) c.in-Parent.ensures.tree
-    (sym c.is-countable-at.ensures ∙ c.if-not-is-countable-at.false))
+    (sym c.is_countable_at.ensures ∙ c.if-not-is_countable_at.false))
 
-pub returns-else-is-countable : goal.returns-else-is-countable
-returns-else-is-countable t c =
-    and_first (countable (part_tree c.in-Parent.right)) c.is-countable.ensures c.if-is-countable.false
+pub returns-else-is_countable : goal.returns-else-is_countable
+returns-else-is_countable t c =
+    and_first (countable (part_tree c.in-Parent.right)) c.is_countable.ensures c.if-is_countable.false
     ∙ sym (parent-countable (part_tree c.args.part) (parent_of c.in-Parent.node.now) (part_tree c.in-Parent.left) (part_tree c.in-Parent.right) c.in-Parent.ensures.tree
-    (sym c.is-countable-at.ensures ∙ c.if-not-is-countable-at.false))
+    (sym c.is_countable_at.ensures ∙ c.if-not-is_countable_at.false))

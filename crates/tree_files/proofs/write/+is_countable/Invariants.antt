@@ -1,4 +1,4 @@
 use Rattle.tree_files.proofs.write.+is_countable.Given as goal
 
-abbrev pub decreases-is-countable : goal.decreases-is-countable
-decreases-is-countable l = l.part.height
+abbrev pub decreases-is_countable : goal.decreases-is_countable
+decreases-is_countable l = l.part.height

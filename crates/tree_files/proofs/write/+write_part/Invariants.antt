@@ -1,4 +1,4 @@
 use Rattle.tree_files.proofs.write.+write_part.Given as goal
 
-abbrev pub decreases-write-part : goal.decreases-write-part
-decreases-write-part l = l.part.height
+abbrev pub decreases-write_part : goal.decreases-write_part
+decreases-write_part l = l.part.height

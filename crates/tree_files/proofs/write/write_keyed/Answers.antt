@@ -6,8 +6,8 @@ pub returns : goal.returns
 returns c =
     record {
       items =
-          keyed-written c.args.node-key.key c.args.node-key.unmerged.now (vec_items c.args.out.now) (vec_items c.extend-from-slice.new.self) (vec_items c.write-key.new.out)
-          (vec_items c.write-u16.new.out) (vec_items c.write-members.new.out) c.write-members.result
-          c.in-ok-extend-from-slice.ensures.items (c.in-ok-write-key.ensures.items.items refl) (c.in-ok-write-u16.ensures.items.items refl) c.write-members.ensures.items;
-      fits = λ k. keyed-fits c.args.node-key.key c.args.node-key.unmerged.now c.in-ok-write-key.ensures.fits c.requires (c.write-members.ensures.fits k);
+          keyed-written c.args.node_key.key c.args.node_key.unmerged.now (vec_items c.args.out.now) (vec_items c.extend_from_slice.new.self) (vec_items c.write_key.new.out)
+          (vec_items c.write_u16.new.out) (vec_items c.write_members.new.out) c.write_members.result
+          c.in_ok-extend_from_slice.ensures.items (c.in_ok-write_key.ensures.items.items refl) (c.in_ok-write_u16.ensures.items.items refl) c.write_members.ensures.items;
+      fits = λ k. keyed-fits c.args.node_key.key c.args.node_key.unmerged.now c.in_ok-write_key.ensures.fits c.requires (c.write_members.ensures.fits k);
     }

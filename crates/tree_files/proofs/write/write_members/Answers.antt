@@ -7,8 +7,8 @@ loop-member-init c = wrote_none c.args.members.now (vec_items c.args.out.now)
 
 pub loop-member-preserved : goal.loop-member-preserved
 loop-member-preserved c =
-    wrote-more c.args.members.now c.loop-member.member-index (record { 0 = 0 }) (vec_items c.args.out.now) (vec_items c.loop-member.out) (vec_items c.write-u16.new.out)
-    c.loop-member.invariant c.loop-member-test.true c.in-ok-write-u16.ensures.fits (c.in-ok-write-u16.ensures.items.items refl)
+    wrote-more c.args.members.now c.loop-member.member-index (record { 0 = 0 }) (vec_items c.args.out.now) (vec_items c.loop-member.out) (vec_items c.write_u16.new.out)
+    c.loop-member.invariant c.loop-member-test.true c.in_ok-write_u16.ensures.fits (c.in_ok-write_u16.ensures.items.items refl)
 
 pub returns : goal.returns
 returns c =

@@ -1,4 +1,4 @@
 use Rattle.tree_math.proofs.walk.+leaf_in.Given as goal
 
-abbrev pub decreases-leaf-in : goal.decreases-leaf_in
-decreases-leaf-in l = l.height
+abbrev pub decreases-leaf_in : goal.decreases-leaf_in
+decreases-leaf_in l = l.height

@@ -1,4 +1,4 @@
 use Rattle.tree_math.proofs.walk.+parent_in.Given as goal
 
-abbrev pub decreases-parent-in : goal.decreases-parent_in
-decreases-parent-in l = l.height
+abbrev pub decreases-parent_in : goal.decreases-parent_in
+decreases-parent_in l = l.height

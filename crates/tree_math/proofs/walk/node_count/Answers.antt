@@ -7,11 +7,11 @@ pub loop-level-init : goal.loop-level-init
 unfolding span
 loop-level-init c = refl
 
-pub overflow-add-nodes : goal.overflow-add-nodes
-overflow-add-nodes c = let b = span-bound c.loop-level.-level (omega arith) in search rules
+pub overflow_add-nodes : goal.overflow_add-nodes
+overflow_add-nodes c = let b = span-bound c.loop-level._level (omega arith) in search rules
 
-pub overflow-add-nodes-in-loop-level : goal.overflow-add-nodes-in-loop-level
-overflow-add-nodes-in-loop-level c = let b = span-bound c.loop-level.-level (omega arith) in search rules
+pub overflow_add-nodes-in-loop-level : goal.overflow_add-nodes-in-loop-level
+overflow_add-nodes-in-loop-level c = let b = span-bound c.loop-level._level (omega arith) in search rules
 
 pub loop-level-preserved : goal.loop-level-preserved
 loop-level-preserved c =

@@ -2,9 +2,9 @@ use Rattle.std.proofs.Common.{◌<◌, ◌≤◌, length, arith}
 use Rattle.wire.proofs.Fronts.{cut_at, too_short}
 use Rattle.wire.proofs.bytes.read_key.Goals as goal
 
-pub returns-in-default : goal.returns-in-default
-returns-in-default c =
-    record { value = λ x rest h e. too_short c.args.bytes.now x.0 rest 32 c.in-default.ensures.cases h e }
+pub returns-in_default : goal.returns-in_default
+returns-in_default c =
+    record { value = λ x rest h e. too_short c.args.bytes.now x.0 rest 32 c.in_default.ensures.cases h e }
 
 pub returns : goal.returns
 returns c =

@@ -4,13 +4,13 @@ use Rattle.wire.specs.Bytes.{be16}
 use Rattle.wire.proofs.Peeling.{read-run, peel-16}
 use Rattle.wire.proofs.bytes.read_run.Goals as goal
 
-pub returns-in-default : goal.returns-in-default
-returns-in-default c = record { value = λ x rest f e. c.in-default.ensures.value (length x / c.args.size.bytes) (x ++ rest) f.few e }
+pub returns-in_default : goal.returns-in_default
+returns-in_default c = record { value = λ x rest f e. c.in_default.ensures.value (length x / c.args.size.bytes) (x ++ rest) f.few e }
 
 pub returns : goal.returns
 returns c =
     record {
       value =
           read-run c.args.size.bytes 65536 be16 peel-16 (λ n. mul-div_cancel_left n c.args.size.some) c.args.bytes.now c.in-Some.rest.now c.in-Some.count
-          c.in-Some.ensures.value.0 c.in-Some.ensures.value.1 c.split-at-checked.result c.split-at-checked.ensures.cases;
+          c.in-Some.ensures.value.0 c.in-Some.ensures.value.1 c.split_at_checked.result c.split_at_checked.ensures.cases;
     }

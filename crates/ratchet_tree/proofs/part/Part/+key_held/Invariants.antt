@@ -1,4 +1,4 @@
 use Rattle.ratchet_tree.proofs.part.Part.+key_held.Given as goal
 
-abbrev pub decreases-key-held : goal.decreases-key-held
-decreases-key-held l = l.self.height
+abbrev pub decreases-key_held : goal.decreases-key_held
+decreases-key_held l = l.self.height

@@ -9,20 +9,20 @@ counts : (b : Bool) → bool_byte (not b) ≡ cond b 0 1
 counts true = refl
 counts false = refl
 
-pub overflow-add-result : goal.overflow-add-result
-overflow-add-result t c =
+pub overflow_add-result : goal.overflow_add-result
+overflow_add-result t c =
     omega (
       arith,
-      c.member-count.ensures,
-      c.member-count-in-Parent.ensures,
+      c.member_count.ensures,
+      c.member_count-in-Parent.ensures,
       members-few c.in-Parent.left.height c.in-Parent.left.nodes.now c.in-Parent.left.shallow,
       members-few c.in-Parent.right.height c.in-Parent.right.nodes.now c.in-Parent.right.shallow,
     )
 
 pub returns-in-Leaf : goal.returns-in-Leaf
 unfolding members
-returns-in-Leaf t c = ap bool_byte c.is-occupied.ensures ∙ counts _ ∙ ap members (sym c.in-Leaf.ensures.1)
+returns-in-Leaf t c = ap bool_byte c.is_occupied.ensures ∙ counts _ ∙ ap members (sym c.in-Leaf.ensures.1)
 
 pub returns-in-Parent : goal.returns-in-Parent
 unfolding members
-returns-in-Parent t c = ap₂ ◌+◌ c.member-count.ensures c.member-count-in-Parent.ensures ∙ ap members (sym c.in-Parent.ensures.tree)
+returns-in-Parent t c = ap₂ ◌+◌ c.member_count.ensures c.member_count-in-Parent.ensures ∙ ap members (sym c.in-Parent.ensures.tree)

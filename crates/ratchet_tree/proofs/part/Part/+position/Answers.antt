@@ -5,8 +5,8 @@ use Rattle.ratchet_tree.specs.Parts.{part_tree}
 use Rattle.ratchet_tree.proofs.Counts.{leaves-part, position-below}
 use Rattle.ratchet_tree.proofs.part.Part.+position.Goals as goal
 
-pub overflow-add-result-in-Some-position : goal.overflow-add-result-in-Some-position
-overflow-add-result-in-Some-position t c =
+pub overflow_add-result-in-Some-position : goal.overflow_add-result-in-Some-position
+overflow_add-result-in-Some-position t c =
     let right : c.in-Some-position.leaf.0 < leaves (part_tree c.in-Parent.right) =
     position-below c.args.member.0 (part_tree c.in-Parent.right) c.in-Some-position.leaf.0 (sym c.in-Some-position.ensures) in
     omega (arith, leaves-part c.in-Parent.left, leaves-part c.in-Parent.right)

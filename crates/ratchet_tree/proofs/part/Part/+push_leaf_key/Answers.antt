@@ -7,10 +7,10 @@ use Rattle.ratchet_tree.proofs.part.Part.+push_leaf_key.Goals as goal
 pub returns-in-Leaf : goal.returns-in-Leaf
 unfolding leaf_key
 returns-in-Leaf t c =
-    appends-as (c.leaf-key-of.ensures ∙ ap (leaf_key c.args.member.0) (sym c.in-Leaf.ensures.1)) c.push-some.ensures
+    appends-as (c.leaf_key_of.ensures ∙ ap (leaf_key c.args.member.0) (sym c.in-Leaf.ensures.1)) c.push_some.ensures
 
-pub returns-in-ok-push-leaf-key : goal.returns-in-ok-push-leaf-key
+pub returns-in_ok-push_leaf_key : goal.returns-in_ok-push_leaf_key
 unfolding leaf_key
-returns-in-ok-push-leaf-key t c =
+returns-in_ok-push_leaf_key t c =
     appends-as (ap (leaf_key c.args.member.0) (sym c.in-Parent.ensures.tree))
-    (appends-two (vec_items c.args.out.now) (leaf_key c.args.member.0 (part_tree c.in-Parent.left)) (c.in-ok-push-leaf-key.ensures.items refl) c.push-leaf-key-in-Parent.ensures)
+    (appends-two (vec_items c.args.out.now) (leaf_key c.args.member.0 (part_tree c.in-Parent.left)) (c.in_ok-push_leaf_key.ensures.items refl) c.push_leaf_key-in-Parent.ensures)

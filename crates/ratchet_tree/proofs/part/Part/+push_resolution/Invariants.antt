@@ -1,4 +1,4 @@
 use Rattle.ratchet_tree.proofs.part.Part.+push_resolution.Given as goal
 
-abbrev pub decreases-push-resolution : goal.decreases-push-resolution
-decreases-push-resolution l = l.self.height
+abbrev pub decreases-push_resolution : goal.decreases-push_resolution
+decreases-push_resolution l = l.self.height

@@ -11,13 +11,13 @@ bounds-nodes-leaf c = leaf-below c.args.self.height c.args.self.nodes.now c.args
 pub loop-leaf-preserved : goal.loop-leaf-preserved
 loop-leaf-preserved c =
     none_more c.args.self.height c.args.self.nodes.now c.args.self.whole is_blank c.loop-leaf.leaf c.index-nodes-leaf.result
-    c.loop-leaf-test.true c.index-nodes-leaf.is (not-not (is_blank (leaf_of c.index-nodes-leaf.result)) ∙ ap not (sym c.if-not-is-occupied.ensures)) c.loop-leaf.invariant
+    c.loop-leaf-test.true c.index-nodes-leaf.is (not-not (is_blank (leaf_of c.index-nodes-leaf.result)) ∙ ap not (sym c.if-not-is_occupied.ensures)) c.loop-leaf.invariant
 
-pub returns-then-not-is-occupied : goal.returns-then-not-is-occupied
-returns-then-not-is-occupied c =
+pub returns-then-not-is_occupied : goal.returns-then-not-is_occupied
+returns-then-not-is_occupied c =
     sym (full-line (part_tree c.args.self)
     ∙ ap not (one_passes c.args.self.height c.args.self.nodes.now c.args.self.whole is_blank c.loop-leaf.leaf c.index-nodes-leaf.result
-    c.loop-leaf-test.true c.index-nodes-leaf.is (not-not (is_blank (leaf_of c.index-nodes-leaf.result)) ∙ ap not (sym c.if-not-is-occupied.ensures))))
+    c.loop-leaf-test.true c.index-nodes-leaf.is (not-not (is_blank (leaf_of c.index-nodes-leaf.result)) ∙ ap not (sym c.if-not-is_occupied.ensures))))
 
 pub returns : goal.returns
 returns c =

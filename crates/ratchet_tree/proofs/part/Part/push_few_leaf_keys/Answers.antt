@@ -16,7 +16,7 @@ loop-member-preserved c =
     let m : ℕ = (get_or c.args.members.now c.loop-member.member-index (record { 0 = 0 })).0 in
     let before : List PublicKey = vec_items c.args.out.now in
     let keys : List PublicKey = leaf_keys (numbers (take c.loop-member.member-index c.args.members.now)) (part_tree c.args.self) in
-    c.in-ok-push-leaf-key.ensures.items refl
+    c.in_ok-push_leaf_key.ensures.items refl
     ∙ ap (λ l. l ++ leaf_key m (part_tree c.args.self)) c.loop-member.invariant
     ∙ append_assoc before keys (leaf_key m (part_tree c.args.self))
     ∙ ap (λ l. before ++ l) (sym (leaf_keys-more c.args.members.now c.loop-member.member-index (record { 0 = 0 }) (part_tree c.args.self) c.loop-member-test.true))

@@ -10,8 +10,8 @@ returns c =
     let seat : c.from-seat.result ≡ get_or c.args.seats.now c.args.member.0 0 =
     c.from-seat.ensures ∙ ap (λ (k : ℕ). get_or c.args.seats.now k 0) c.from-index.ensures in
     appends-as
-    (c.leaf-key-of.ensures
+    (c.leaf_key_of.ensures
     ∙ key-told c.args.self.height c.args.self.nodes.now c.args.member.0 c.from-seat.result c.index-self-seat.result c.args.self.whole
     c.if-seat-eq0.false c.if-seat-self.false
     (subst (Seat (part_tree c.args.self) c.args.member.0) (sym seat) (c.requires c.args.member.0 (omega (arith, c.from-index.ensures, c.if-index-seats.false)))))
-    c.push-some.ensures
+    c.push_some.ensures

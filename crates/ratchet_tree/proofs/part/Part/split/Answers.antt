@@ -17,15 +17,15 @@ returns-then-self-eq0 c = (
 pub bounds-nodes-nodes : goal.bounds-nodes-nodes
 bounds-nodes-nodes c = omega (arith, first_below c.args.self.height c.args.self.nodes.now c.args.self.whole)
 
-pub invariant-of-left : goal.invariant-of-left
-invariant-of-left c = (
-  left-span c.args.self.height c.args.self.nodes.now c.if-self-eq0.false c.args.self.whole c.left-half.ensures.value,
+pub invariant_of-left : goal.invariant_of-left
+invariant_of-left c = (
+  left-span c.args.self.height c.args.self.nodes.now c.if-self-eq0.false c.args.self.whole c.left_half.ensures.value,
   (omega arith, tt),
 )
 
-pub invariant-of-right : goal.invariant-of-right
-invariant-of-right c = (
-  right-span c.args.self.height c.args.self.nodes.now c.if-self-eq0.false c.args.self.whole c.right-half.ensures.value,
+pub invariant_of-right : goal.invariant_of-right
+invariant_of-right c = (
+  right-span c.args.self.height c.args.self.nodes.now c.if-self-eq0.false c.args.self.whole c.right_half.ensures.value,
   (omega arith, tt),
 )
 
@@ -33,8 +33,8 @@ pub returns : goal.returns
 returns c =
     record {
       tree =
-          tree-node c.args.self.height c.args.self.nodes.now c.if-self-eq0.false c.args.self.whole c.left-half.ensures.value
-          c.right-half.ensures.value c.index-nodes-nodes.is;
+          tree-node c.args.self.height c.args.self.nodes.now c.if-self-eq0.false c.args.self.whole c.left_half.ensures.value
+          c.right_half.ensures.value c.index-nodes-nodes.is;
       left = omega arith;
       right = omega arith;
     }

@@ -3,13 +3,13 @@ use Rattle.ratchet_tree.specs.Nodes.{tree_of}
 use Rattle.ratchet_tree.proofs.Copies.{same-tree, same_length}
 use Rattle.ratchet_tree.proofs.tree.RatchetTree.copy.Goals as goal
 
-pub invariant-of-result : goal.invariant-of-result
-invariant-of-result c = (
-  omega (arith, same_length (vec_items c.in-ok-nodes.nodes) c.deref.result.now c.in-ok-nodes.ensures, c.deref.ensures.len, c.in-ok-nodes.nodes.ok.0),
+pub invariant_of-result : goal.invariant_of-result
+invariant_of-result c = (
+  omega (arith, same_length (vec_items c.in_ok-nodes.nodes) c.deref.result.now c.in_ok-nodes.ensures, c.deref.ensures.len, c.in_ok-nodes.nodes.ok.0),
   (c.args.self.now.shallow, tt),
 )
 
 pub returns : goal.returns
 returns c =
-    same-tree c.args.self.now.depth (vec_items c.in-ok-nodes.nodes) c.deref.result.now c.in-ok-nodes.ensures
+    same-tree c.args.self.now.depth (vec_items c.in_ok-nodes.nodes) c.deref.result.now c.in_ok-nodes.ensures
     ∙ ap (tree_of c.args.self.now.depth) c.deref.ensures.value

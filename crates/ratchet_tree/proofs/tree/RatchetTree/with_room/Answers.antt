@@ -27,25 +27,25 @@ module _ (d : ℕ) (ns items copy : List Node) (lent : ns ≡ items) (same : map
       ∙ ap (λ t. node blank_parent t (blank_tree t)) copy-tree
       ∙ sym (cond-true (full (tree_of d items)) (node blank_parent (tree_of d items) (blank_tree (tree_of d items))) (tree_of d items) f)
 
-pub invariant-of-result : goal.invariant-of-result
-invariant-of-result c = (
+pub invariant_of-result : goal.invariant_of-result
+invariant_of-result c = (
   omega (arith, same_length (vec_items c.in-Ok.nodes) c.deref.result.now c.in-Ok.ensures, c.deref.ensures.len, c.in-Ok.nodes.ok.0),
   (c.args.self.now.shallow, tt),
 )
 
-pub returns-then-not-is-full : goal.returns-then-not-is-full
-returns-then-not-is-full c =
+pub returns-then-not-is_full : goal.returns-then-not-is_full
+returns-then-not-is_full c =
     not-grown c.args.self.now.depth c.deref.result.now (vec_items c.args.self.now.nodes) (vec_items c.in-Ok.nodes) c.deref.ensures.value c.in-Ok.ensures
-    (ap full (sym c.as-part.ensures) ∙ sym c.if-not-is-full.ensures)
+    (ap full (sym c.as_part.ensures) ∙ sym c.if-not-is_full.ensures)
 
 pub returns-then-depth-ge-MAX-DEPTH : goal.returns-then-depth-ge-MAX-DEPTH
 returns-then-depth-ge-MAX-DEPTH c = (
-  ap full (sym c.as-part.ensures) ∙ sym c.if-not-is-full.ensures,
+  ap full (sym c.as_part.ensures) ∙ sym c.if-not-is_full.ensures,
   omega (arith, height-is c.args.self.now.depth (vec_items c.args.self.now.nodes), c.args.self.now.shallow),
 )
 
-pub invariant-of-result-2 : goal.invariant-of-result-2
-invariant-of-result-2 c =
+pub invariant_of-result-2 : goal.invariant_of-result-2
+invariant_of-result-2 c =
     let items : List Node = vec_items c.args.self.now.nodes in
     let long : length items ≡ span c.args.self.now.depth = omega (arith, c.args.self.now.nodes.ok.0, c.args.self.now.whole) in
     let twice : length (vec_items c.double.new.nodes) ≡ span (suc c.args.self.now.depth) =
@@ -58,4 +58,4 @@ pub returns : goal.returns
 returns c =
     doubled c.args.self.now.depth c.deref.result.now (vec_items c.args.self.now.nodes) (vec_items c.in-Ok.nodes) c.deref.ensures.value c.in-Ok.ensures
     (vec_items c.double.new.nodes) (omega (arith, c.args.self.now.nodes.ok.0, c.args.self.now.whole)) (c.in-Ok-double.ensures.items refl)
-    (ap full (sym c.as-part.ensures) ∙ sym c.if-not-is-full.ensures)
+    (ap full (sym c.as_part.ensures) ∙ sym c.if-not-is_full.ensures)
