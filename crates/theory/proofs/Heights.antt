@@ -1,10 +1,10 @@
 -- What a member holds, height by height.
 -- Assumes nothing.
-use Rattle.std.proofs.Common.{◌≡◌, ℕ, zero, suc, ◌≤◌, Bool, true, false, cond, ◌&&◌, ◌||◌, T, eqb, List, [], ◌∷◌, ◌++◌, sym, refl, ap, ◌∙◌, ap₂, arith}
+use Rattle.std.proofs.Common.{◌≡◌, ℕ, zero, suc, ◌≤◌, Bool, true, false, cond, ◌&&◌, ◌||◌, T, eqb, List, [], ◌++◌, sym, refl, ap, ◌∙◌, ap₂, arith}
 use Rattle.std.proofs.lemmas.Bool.{eq-eqb, ne_eqb, cond-true, cond-false}
 use Rattle.theory.specs.Held.{held, held_at, node_key_held}
 use Rattle.theory.specs.Laws.{held_down, HeldByHeight}
-use Rattle.theory.specs.Tree.{Tree, leaf, node, Leaf, Parent, is_at, key_at, seated, height, is_level}
+use Rattle.theory.specs.Tree.{Tree, leaf, node, Parent, is_at, key_at, seated, height, is_level}
 
 left-of : (a b : Bool) → T (a && b) → T a
 left-of true b t = tt

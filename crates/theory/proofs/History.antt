@@ -6,7 +6,7 @@ use Rattle.std.proofs.lemmas.Bool.{cases_lt}
 use Rattle.theory.specs.Limits.{nobody, last_epoch}
 use Rattle.theory.specs.Secrets.{Secret, Purpose, drawn, leaf_key, path_secret, newcomer_key, up, lock, mix, seed, talk, ups}
 use Rattle.theory.specs.Tree.{Tree, seated, grown}
-use Rattle.theory.specs.Path.{Laid, laid}
+use Rattle.theory.specs.Path.{Laid}
 use Rattle.theory.specs.Group.{Change, renew, remove, add, newcomer, Commit, Group, change_refusal, readied, own_key, path_key, path_at, moved, allowed, committed, group}
 use Rattle.theory.proofs.Tests.{by_cond, nor-left}
 use Rattle.theory.proofs.Runs.{laying, run-keeps}

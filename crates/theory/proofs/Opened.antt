@@ -1,6 +1,6 @@
 -- What is computed is where a talk secret lies open.
 -- Assumes nothing.
-use Rattle.std.proofs.Common.{◌≡◌, ℕ, zero, suc, not, ◌&&◌, ◌||◌, T, eqb, ◌↔◌, List, [], ◌∷◌, sym, refl, ap, subst, ap₂, inl, inr, eqb→eq, T_not}
+use Rattle.std.proofs.Common.{◌≡◌, ℕ, zero, suc, not, ◌&&◌, ◌||◌, T, eqb, List, [], ◌∷◌, refl, subst, ap₂, inl, inr, eqb→eq, T_not}
 use mathlib.Core.List.{Memᴰ}
 use lib.Dec.{not_T, eqb_refl}
 use Rattle.theory.specs.Secrets.{Secret}

@@ -2,7 +2,7 @@
 -- `Change`, `Commit`, `refusal`; `readied`, `laid_by`: the tree with what is asked, and with the path;
 -- `Group`, `founded`, `committed`, `group`: the group after the first n commits of a list without end; `stock`: what a handset holds.
 -- Assumes nothing.
-use Rattle.std.specs.Prelude.{ℕ, zero, suc, ◌+◌, Bool, true, false, cond, not, ◌&&◌, ◌||◌, List, [], ◌∷◌, ◌++◌, map, is_some, Some, None, Option, ◌==◌, nat_le, slice_index_or}
+use Rattle.std.specs.Prelude.{ℕ, zero, suc, Bool, cond, not, ◌||◌, List, [], ◌∷◌, ◌++◌, map, is_some, Some, None, Option, ◌==◌, nat_le, slice_index_or}
 use Rattle.theory.specs.Limits.{max_members, nobody, last_epoch}
 use Rattle.theory.specs.Secrets.{Secret, drawn, leaf_key, path_secret, newcomer_key, init_key, first_epoch, lock, mix, seed, talk, ups, Box}
 use Rattle.theory.specs.Tree.{Tree, leaf, occupied, seated, members, grown, added, removed}

@@ -1,7 +1,7 @@
 -- The keys that a member holds: its leaf key, and the node key of each parent above it at which it isn't unmerged.
 -- `is_unmerged`, `node_key_held`, `held`; `held_at`: the key held at one height, 0 being the leaf.
 -- Assumes nothing.
-use Rattle.std.specs.Prelude.{ℕ, zero, suc, Bool, true, false, cond, ◌||◌, List, [], ◌∷◌, ◌++◌, ◌==◌}
+use Rattle.std.specs.Prelude.{ℕ, suc, Bool, false, cond, ◌||◌, List, [], ◌∷◌, ◌++◌, ◌==◌}
 use Rattle.theory.specs.Tree.{Tree, leaf, node, Parent, blank_parent, keyed, is_at, key_at, seated, height}
 
 -- is m among the unmerged

@@ -9,7 +9,7 @@ use Rattle.std.specs.Option.{option_map}
 use Rattle.theory.specs.Limits.{max_depth}
 use Rattle.theory.specs.Secrets.{Secret}
 use Rattle.theory.specs.Tree.{Tree, Leaf, blank_leaf, occupied, blank_parent, keyed, is_blank, seated, full, height, is_level, position, resolution, grown, unmerged_at, added, removed}
-use Rattle.theory.specs.Path.{Laid, laid}
+use Rattle.theory.specs.Path.{laid}
 use Rattle.theory.specs.Held.{held, held_at}
 use Rattle.theory.specs.Group.{Commit, group}
 use Rattle.theory.specs.Places.{Turn, left, right, leaf_at, parent_at, sits, has_key, has_unmerged, Over, LeftOf, leaves_before, Below, Beside}

@@ -1,8 +1,8 @@
 -- The path that a committer lays from its leaf to the top: new keys, and what is sealed to whom.
 -- `Target`: a key sealed to, and the level of the path secret that it is given; `Laid`: the tree with its path; `laid`.
 -- Assumes nothing.
-use Rattle.std.specs.Prelude.{ℕ, zero, suc, Bool, true, false, cond, List, [], ◌∷◌, ◌++◌, map}
-use Rattle.theory.specs.Tree.{Tree, leaf, node, Leaf, occupied, Parent, blank_parent, keyed, is_at, seated, resolution}
+use Rattle.std.specs.Prelude.{ℕ, suc, cond, List, [], ◌∷◌, ◌++◌, map}
+use Rattle.theory.specs.Tree.{Tree, leaf, node, occupied, Parent, blank_parent, keyed, is_at, seated, resolution}
 
 -- the path secret of a level is sealed to a key
 pub record Target (K : Type 0) : Type 0 where

@@ -2,11 +2,10 @@
 -- `Cell`, `cells`: a tree as it is printed, in the order of its nodes; `Case`, `outcome`, `rows`: what comes of a commit;
 -- `VerdictRow`, `verdict_rows`: what is said of each epoch where handsets were read out; `WorkedCases`: the definitions give each row of both.
 -- Assumes nothing.
-use Rattle.std.specs.Prelude.{◌≡◌, ℕ, zero, suc, ◌+◌, List, [], ◌∷◌, ◌++◌, map, length}
-use Rattle.theory.specs.Secrets.{Secret, drawn, leaf_key, path_secret, newcomer_key, init_key, lock, Box}
+use Rattle.std.specs.Prelude.{◌≡◌, ℕ, suc, List, [], ◌∷◌, ◌++◌, map, length}
+use Rattle.theory.specs.Secrets.{Secret, drawn, leaf_key, path_secret, newcomer_key, init_key, lock}
 use Rattle.theory.specs.Tree.{Tree, leaf, node, Leaf, blank_leaf, occupied, Parent, blank_parent, keyed, height}
-use Rattle.theory.specs.Path.{Laid}
-use Rattle.theory.specs.Group.{Change, renew, remove, add, Commit, Group, group, listed, message, path_at}
+use Rattle.theory.specs.Group.{Change, renew, remove, add, Commit, group, listed, message, path_at}
 use Rattle.theory.specs.Promise.{Exposure}
 use Rattle.theory.specs.Verdicts.{Verdict, shut_unknown, open_unknown, open_known, verdicts}
 

@@ -1,4 +1,6 @@
 // The rules of a group as definitions, and what is shown of them. Each function here has a theorem as its contract.
+#![tactic(auto)]
+
 mod follow;
 mod laws;
 mod promise;

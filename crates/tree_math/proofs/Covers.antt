@@ -1,5 +1,5 @@
 -- Which leaves a node stands over.
-use Rattle.std.proofs.Common.{◌≡◌, ℕ, zero, suc, ◌+◌, ◌-◌, ◌*◌, ◌^◌, ◌<◌, ◌≤◌, Some, ap, ◌∙◌, pow-suc, arith, pow_pos}
+use Rattle.std.proofs.Common.{◌≡◌, ℕ, zero, suc, ◌+◌, ◌-◌, ◌*◌, ◌^◌, ◌≤◌, Some, ap, ◌∙◌, pow-suc, arith, pow_pos}
 use Rattle.tree_math.specs.Index.{left_of, right_of}
 use Rattle.tree_math.specs.Laws.{node_over, onward, leftmost, rightmost, Covers}
 use Rattle.tree_math.proofs.Numbering.{numbering}

@@ -1,7 +1,7 @@
 -- How many nodes a part of a tree has, and its halves in a line of nodes.
 -- `span h`: the nodes of a part of height h; `left_half`, `right_half`, `middle`: a node list cut at its middle node.
 -- Assumes nothing.
-use Rattle.std.specs.Prelude.{ℕ, zero, suc, ◌+◌, ◌/◌, List, length, get_or, take, drop}
+use Rattle.std.specs.Prelude.{ℕ, zero, suc, ◌+◌, ◌/◌, List, length, take, drop}
 
 -- the nodes of a part of height h: two parts of one height less, and the node between them
 unfoldable pub span : ℕ → ℕ

@@ -1,4 +1,6 @@
 // Node indices of a left-balanced full binary tree, and the halves of a line of nodes.
+#![tactic(auto)]
+
 mod halves;
 mod index;
 mod laws;

@@ -15,7 +15,7 @@ use Rattle.theory.proofs.Growth.{grown-full, grown-roomy}
 use Rattle.vault_theory.specs.Order.{slot_of_key}
 use Rattle.vault_theory.specs.Vault.{put}
 use Rattle.vault_theory.proofs.Steps.{Slots, put-there}
-use Rattle.vault_theory.proofs.Seats.{Seat, here, on_left, on_right, seat-seated, seat-level}
+use Rattle.vault_theory.proofs.Seats.{Seat, on_left, on_right, seat-seated, seat-level}
 use Rattle.vault_theory.proofs.Slots.{parent_over, over, over-left, over-right}
 
 -- m's coming takes no node key from another

@@ -9,7 +9,7 @@ use Rattle.theory.proofs.Tests.{by_cond, decided, is_true, is_false, nor-left, n
 use Rattle.theory.proofs.Removal.{removed-absent, removed-node, seated-removed}
 use Rattle.theory.proofs.Level.{Level, level-height, removed-level}
 use Rattle.theory.proofs.Level as level
-use Rattle.theory.proofs.Wellformed.{Apart, Sound, at_leaf, at_node, consistent-sound}
+use Rattle.theory.proofs.Wellformed.{Apart, Sound, at_node, consistent-sound}
 use Rattle.vault_theory.specs.Order.{Order}
 use Rattle.vault_theory.specs.Numbers.{levels, is_held}
 use Rattle.vault_theory.specs.Orders.{held_forgotten, dropped, dropped_for, climbed, opened, followed, turned, staying, taking, orders_of}

@@ -16,7 +16,7 @@ use Rattle.theory.proofs.Wellformed.{Fine, renewal, removal, addition, permitted
 use Rattle.theory.proofs.Follows.{grown-room, stranger}
 use Rattle.vault_theory.specs.Order.{slot_of_key, epoch_slot}
 use Rattle.vault_theory.specs.Vault.{Sealed, sealed_box, themselves, put, nth, run}
-use Rattle.vault_theory.specs.Numbers.{levels, posted}
+use Rattle.vault_theory.specs.Numbers.{posted}
 use Rattle.vault_theory.specs.Orders.{staying, committing, joining, leaving, welcoming}
 use Rattle.vault_theory.specs.Layout.{layout}
 use Rattle.vault_theory.specs.Slots.{is_newcomer, draws_of, node_keys, boxes_in, seen, orders_in, chip_with, bare, next, carried_out, SlotsKept}

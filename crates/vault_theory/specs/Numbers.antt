@@ -2,7 +2,7 @@
 -- `levels`, `posted`: how many node keys and boxes the path has; `is_held`: does a member hold a parent's node key;
 -- `number_of_key`, `height_of_key`: which key of a resolution reaches a member, and at which height the member holds it.
 -- Assumes nothing.
-use Rattle.std.specs.Prelude.{ℕ, zero, suc, ◌+◌, Bool, true, false, cond, not, List, [], ◌∷◌, length, ◌==◌}
+use Rattle.std.specs.Prelude.{ℕ, suc, ◌+◌, Bool, false, cond, not, List, [], ◌∷◌, length, ◌==◌}
 use Rattle.theory.specs.Tree.{Tree, leaf, node, Parent, blank_parent, keyed, seated, height, resolution}
 use Rattle.theory.specs.Path.{level_after}
 use Rattle.theory.specs.Held.{is_unmerged}

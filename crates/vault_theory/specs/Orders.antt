@@ -2,10 +2,10 @@
 -- `held_forgotten`, `risen`: one parent; `dropped`: what a removal makes a member forget; `followed`, `made`: the path, for who is given it and for the committer;
 -- `turned`: the epoch; `staying`, `committing`, `joining`, `leaving`: the roles; `orders_of`: the orders of a member; `founding`: of a founder.
 -- Assumes nothing.
-use Rattle.std.specs.Prelude.{ℕ, zero, suc, ◌+◌, Bool, true, false, cond, ◌||◌, List, [], ◌∷◌, ◌++◌, map, ◌==◌}
+use Rattle.std.specs.Prelude.{ℕ, suc, ◌+◌, cond, ◌||◌, List, [], ◌∷◌, ◌++◌, map, ◌==◌}
 use Rattle.theory.specs.Tree.{Tree, leaf, node, Parent, seated, height, resolution}
 use Rattle.theory.specs.Group.{Change, renew, remove, add, Commit, readied}
-use Rattle.vault_theory.specs.Order.{Way, up, lock, seed, talk, Order, draw, derive, mix, seal, unseal, forget, publish, talk_slot, seed_slot, slot_of_key, slot_of_path, epoch_slot, init_slot}
+use Rattle.vault_theory.specs.Order.{up, lock, seed, talk, Order, draw, derive, mix, seal, unseal, forget, publish, talk_slot, seed_slot, slot_of_key, slot_of_path, epoch_slot, init_slot}
 use Rattle.vault_theory.specs.Numbers.{levels, posted, is_held, number_of_key, height_of_key}
 
 -- the node key of height h is forgotten, where w holds it

@@ -2,11 +2,11 @@
 -- `concerns`: whom a commit concerns; `draws_of`, `given_by`: what it draws and which halves it gives; `orders_in`: its orders; `chip_with`: a vault before its orders;
 -- `Carried`, `SlotsKept`: one commit, from any tree that keeps the rules; `chip`, `ChipsHold`: every chip of every run.
 -- Assumes nothing.
-use Rattle.std.specs.Prelude.{◌≡◌, ℕ, zero, suc, ◌≤◌, Bool, true, false, cond, ◌&&◌, ◌||◌, T, List, [], ◌∷◌, ◌++◌, map, Some, None, Option, ◌==◌}
+use Rattle.std.specs.Prelude.{◌≡◌, ℕ, zero, suc, ◌≤◌, Bool, false, cond, ◌&&◌, ◌||◌, T, List, [], ◌∷◌, ◌++◌, map, Some, None, Option, ◌==◌}
 use Rattle.std.specs.Option.{option_map}
 use Rattle.theory.specs.Limits.{max_depth}
 use Rattle.theory.specs.Secrets.{Secret, drawn, newcomer_key, init_key, first_epoch, lock, ups, Box}
-use Rattle.theory.specs.Tree.{Tree, seated, is_level}
+use Rattle.theory.specs.Tree.{seated, is_level}
 use Rattle.theory.specs.Path.{Laid}
 use Rattle.theory.specs.Wellformed.{consistent}
 use Rattle.theory.specs.Group.{Change, renew, remove, add, Commit, Group, group, allowed, own_key, path_key, newcomer, path_at, boxes_of, moved, stock}

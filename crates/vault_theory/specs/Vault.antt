@@ -2,11 +2,11 @@
 -- `Halves`: how keys are named by their public halves; `Sealed`, `sealed_box`: a box as a vault sees it; `Vault`; `put`: a slot changed;
 -- `filled`, `step`: one order, or none where it can't be carried out; `run`: orders one after the other.
 -- Assumes nothing.
-use Rattle.std.specs.Prelude.{ℕ, zero, suc, Bool, true, false, cond, not, ◌&&◌, List, [], ◌∷◌, ◌++◌, is_some, Some, None, Option, ◌==◌, nat_lt}
+use Rattle.std.specs.Prelude.{ℕ, zero, suc, Bool, cond, not, ◌&&◌, List, [], ◌∷◌, ◌++◌, is_some, Some, None, Option, ◌==◌, nat_lt}
 use Rattle.theory.specs.Known as known
 use Rattle.theory.specs.Secrets as secrets
 use Rattle.theory.specs.Secrets.{Secret, Box}
-use Rattle.vault_theory.specs.Order.{Way, derived, Order, draw, derive, mix, seal, unseal, forget, publish, slot_count}
+use Rattle.vault_theory.specs.Order.{derived, Order, draw, derive, mix, seal, unseal, forget, publish, slot_count}
 
 -- the public half of each secret, and whether two halves are the same
 pub record Halves (K : Type 0) : Type 0 where

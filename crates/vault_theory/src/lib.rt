@@ -1,4 +1,6 @@
 // The orders to a vault as definitions, and what becomes of a vault that carries them out. Each function has a theorem as its contract.
+#![tactic(auto)]
+
 ghost use Rattle.vault_theory.specs.AtHalves.{RunsAtHalves};
 ghost use Rattle.vault_theory.specs.Capped.{BoxesThere, BoxesFew, CapKeeps};
 ghost use Rattle.vault_theory.specs.Laws.{Few, Spare};
