@@ -17,7 +17,7 @@ use Rattle.theory.proofs.Tests.{by_cond, or_left, or_right}
 use Rattle.theory.proofs.Wellformed.{Sound, at_leaf, at_node, ParentSound, Numbered, permitted, run_sound, run-numbered, well-formed-kept}
 use Rattle.ratchet_tree.specs.declared.member.PublicKey.{PublicKey}
 use Rattle.wire.specs.Bytes.{Half}
-use Rattle.tree_files.specs.TreeFile.{FitsLeaf, FitsMembers, FitsParent, FitsPart}
+use Rattle.messages.specs.TreeFile.{FitsLeaf, FitsMembers, FitsParent, FitsPart}
 use Rattle.tree_files.specs.Verdict.{Fits}
 use Rattle.tree_files.specs.Laws.{RunsFiled, run_file}
 use Rattle.tree_files.proofs.Verdicts.{kept}

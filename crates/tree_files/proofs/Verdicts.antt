@@ -15,7 +15,7 @@ use Rattle.tree_files.specs.declared.tree_file.FileError.{FileError}
 use Rattle.tree_files.specs.declared.tree_file.FileError.TheVariants as file-error
 use Rattle.tree_files.specs.declared.tree_file.WriteError.{WriteError}
 use Rattle.tree_files.specs.declared.tree_file.WriteError.TheVariants as write-error
-use Rattle.tree_files.proofs.Filing.{one-tree}
+use Rattle.messages.proofs.Filing.{one-tree}
 
 pub breaks-a-rule : (f : File) → well_formed f.tree ≡ false → file_refusal (Some f) ≡ Some 8
 breaks-a-rule f h = ap (λ (b : Bool). first_of (not b) 8 None) h

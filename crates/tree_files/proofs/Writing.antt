@@ -13,7 +13,7 @@ use Rattle.ratchet_tree.specs.declared.node.Node.{Node}
 use Rattle.ratchet_tree.proofs.Appending.{appends-as, appends-two}
 use Rattle.ratchet_tree.proofs.Counts.{height-is}
 use Rattle.wire.specs.Bytes.{be16, key_bytes, Half}
-use Rattle.tree_files.specs.TreeFile.{leaf_bytes, parent_bytes, members_bytes, nodes_bytes, file_head, encode_tree, FitsLeaf, FitsParent, FitsMembers, FitsPart, FitsTree}
+use Rattle.messages.specs.TreeFile.{leaf_bytes, parent_bytes, members_bytes, nodes_bytes, file_head, encode_tree, FitsLeaf, FitsParent, FitsMembers, FitsPart, FitsTree}
 use Rattle.tree_files.specs.Write.{countable_at, countable}
 
 numbers-length : (ms : List MemberId) → length (numbers ms) ≡ length ms
