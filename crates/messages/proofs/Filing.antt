@@ -1,13 +1,11 @@
 -- A whole tree file: its front, then its nodes, and nothing more.
 -- Assumes nothing.
-use Rattle.std.proofs.Common.{◌≡◌, ℕ, zero, suc, ◌+◌, ◌-◌, ◌*◌, ◌<◌, ◌≤◌, List, [], ◌∷◌, ◌++◌, length, get_or, take, drop, Ok, Err, Result, sym, refl, ap, ◌∙◌, subst, ap₂, arith}
+use Rattle.std.proofs.Common.{◌≡◌, ℕ, ◌+◌, ◌-◌, ◌*◌, ◌<◌, ◌≤◌, List, [], ◌∷◌, ◌++◌, length, get_or, take, drop, Err, sym, ap, ◌∙◌, subst, ap₂, arith}
 use Rattle.std.proofs.lemmas.List.{append-nil}
 use Rattle.theory.specs.Tree.{Tree}
-use Rattle.theory.specs.Limits.{max_depth}
 use Rattle.ratchet_tree.specs.Nodes.{tree_of}
 use Rattle.ratchet_tree.specs.declared.member.PublicKey.{PublicKey}
 use Rattle.ratchet_tree.specs.declared.node.Node.{Node}
-use Rattle.wire.specs.Bytes.{be32}
 use Rattle.messages.specs.Message.{Message, encode}
 use Rattle.messages.specs.TreeFile.{nodes_bytes, file_head, encode_tree, FitsPart, FitsTree, FitsFile, file_head_bytes, Grew, FindsPart, Parsed}
 use Rattle.messages.specs.declared.tree_file.FileHeader.{FileHeader}

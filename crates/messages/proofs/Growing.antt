@@ -1,10 +1,10 @@
 -- A part of a tree file: its left, the node between, its right.
 -- Assumes nothing.
-use Rattle.std.proofs.Common.{◌≡◌, ℕ, zero, suc, ◌+◌, ◌-◌, ◌<◌, ◌≤◌, List, [], ◌∷◌, ◌++◌, length, get_or, take, drop, Ok, Err, Result, sym, refl, ap, ◌∙◌, subst, ap₂, append_assoc, arith, Bor}
+use Rattle.std.proofs.Common.{◌≡◌, ℕ, zero, suc, ◌+◌, List, [], ◌∷◌, ◌++◌, take, drop, Ok, Err, Result, sym, refl, ap, ◌∙◌, subst, ap₂, append_assoc, arith, Bor}
 use Rattle.theory.specs.Tree.{Tree, leaf, node, Leaf, Parent}
 use Rattle.tree_math.specs.Span.{span}
 use Rattle.tree_math.proofs.Span.{built-left, built-middle, built-right, built-length}
-use Rattle.ratchet_tree.specs.Nodes.{as_leaf, as_parent, leaf_of, parent_of, tree_of, no_node}
+use Rattle.ratchet_tree.specs.Nodes.{as_leaf, as_parent, parent_of, tree_of, no_node}
 use Rattle.ratchet_tree.proofs.Trees.{tree-suc}
 use Rattle.ratchet_tree.specs.declared.member.PublicKey.{PublicKey}
 use Rattle.ratchet_tree.specs.declared.node.Leaf as leaf-code

@@ -1,7 +1,7 @@
 -- Members of two bytes each, one after the other.
 -- Assumes nothing.
-use Rattle.std.proofs.Common.{◌≡◌, ℕ, zero, suc, ◌+◌, ◌-◌, ◌*◌, ◌/◌, ◌%◌, ◌<◌, ◌≤◌, List, [], ◌∷◌, ◌++◌, length, get_or, take, drop, sym, refl, ap, ◌∙◌, subst, ap₂, append_assoc, arith}
-use Rattle.std.proofs.lemmas.List.{take_more, take_all, length_push, map_push, append-nil, length-map}
+use Rattle.std.proofs.Common.{◌≡◌, ℕ, ◌+◌, ◌*◌, ◌/◌, ◌<◌, List, [], ◌∷◌, ◌++◌, length, get_or, take, sym, refl, ap, ◌∙◌, subst, ap₂, append_assoc, arith}
+use Rattle.std.proofs.lemmas.List.{take_more, take_all, length_push, map_push}
 use Rattle.ratchet_tree.specs.Nodes.{numbers}
 use Rattle.ratchet_tree.specs.declared.member.MemberId.{MemberId}
 use Rattle.wire.specs.Bytes.{be16, Whole, run_bytes}

@@ -1,4 +1,6 @@
 // Commit messages and tree files as bytes, and a handset that takes a message.
+#![tactic(auto)]
+
 mod handset;
 mod laws;
 mod message;

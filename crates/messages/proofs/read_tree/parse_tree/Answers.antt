@@ -1,4 +1,4 @@
-use Rattle.std.proofs.Common.{◌≡◌, vec_items}
+use Rattle.std.proofs.Common.{vec_items}
 use Rattle.std.proofs.lemmas.Result.{err_from_is_err_and}
 use Rattle.messages.proofs.Filing.{no_front, no-nodes, no_more, all_read}
 use Rattle.wire.proofs.Peeling.{some_left, none_left}

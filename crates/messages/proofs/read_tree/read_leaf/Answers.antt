@@ -1,4 +1,4 @@
-use Rattle.std.proofs.Common.{◌≡◌, ℕ, ◌-◌, ◌<◌, ◌≤◌, List, ◌∷◌, ◌++◌, length, get_or, take, drop, sym, refl, ap, ◌∙◌, append_assoc, rules}
+use Rattle.std.proofs.Common.{◌≡◌, ℕ, ◌-◌, ◌≤◌, List, ◌∷◌, ◌++◌, length, get_or, take, drop, sym, ap, ◌∙◌, rules}
 use Rattle.wire.specs.Bytes.{be16, key_bytes}
 use Rattle.messages.proofs.Nodes.{tagged, leaf-is}
 use Rattle.wire.proofs.Peeling.{peel-16}
