@@ -1,4 +1,6 @@
 // Tree files: a group's epoch and tree as bytes, read, judged and written.
+#![tactic(auto)]
+
 mod judge;
 mod laws;
 mod read;
