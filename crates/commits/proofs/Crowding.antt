@@ -1,6 +1,6 @@
 -- A full tree of the largest depth has as many members as a group may have, so an add to it is refused before.
 -- Assumes nothing.
-use Rattle.std.proofs.Common.{◌≡◌, ℕ, zero, suc, ◌+◌, ◌*◌, ◌≤◌, Bool, true, false, cond, not, ◌&&◌, ◌||◌, eqb, leb, List, take, drop, Some, None, Option, sym, refl, ap, ◌∙◌, arith}
+use Rattle.std.proofs.Common.{◌≡◌, ℕ, ◌≤◌, Bool, true, false, cond, not, ◌||◌, leb, List, None, Option, sym, refl, ap, ◌∙◌, arith}
 use Rattle.std.proofs.lemmas.Bool.{and_parts, leb-false}
 use Rattle.theory.specs.Group.{Change, renew, remove, add, Commit, change_refusal, first_of, refusal}
 use Rattle.theory.specs.Limits.{max_members, nobody, last_epoch}

@@ -1,15 +1,15 @@
 -- Laying a path, by which half the committer sits in: on trees, and on a line of nodes.
 -- Assumes nothing.
-use Rattle.std.proofs.Common.{◌≡◌, ℕ, zero, suc, ◌+◌, ◌-◌, ◌/◌, ◌≤◌, Bool, true, false, cond, not, List, [], ◌∷◌, length, get_or, take, drop, set, sym, refl, ap, ◌∙◌, subst, ap₂, add-one, arith}
+use Rattle.std.proofs.Common.{◌≡◌, ℕ, zero, suc, ◌+◌, ◌-◌, ◌/◌, ◌≤◌, Bool, true, false, cond, not, List, [], ◌∷◌, length, get_or, take, drop, set, sym, ap, ◌∙◌, ap₂, add-one, arith}
 use mir.Val.{bool_byte}
 use Rattle.std.proofs.lemmas.Bool.{cond-true, cond-false, cond_both}
-use Rattle.theory.specs.Tree.{Tree, leaf, node, Parent, blank_parent, keyed, seated, resolution, height}
+use Rattle.theory.specs.Tree.{Tree, node, Parent, blank_parent, keyed, seated, resolution}
 use Rattle.theory.specs.Path.{Laid, laid, climbed, parent_laid, level_after}
 use Rattle.tree_math.specs.Span.{span, left_half, right_half}
 use Rattle.ratchet_tree.specs.declared.member.PublicKey.{PublicKey}
 use Rattle.ratchet_tree.specs.declared.node.Node.{Node}
 use Rattle.ratchet_tree.specs.Nodes.{parent_of, tree_of, no_node}
-use Rattle.ratchet_tree.proofs.Cuts.{Cut, behind, left_put, right_put, cut-start, cut-set, cut-tree-at, start-tree, middle-at, left-half-at, right-half-at, left_is, right_is, left-put, right-put}
+use Rattle.ratchet_tree.proofs.Cuts.{behind, left_put, right_put, cut-start, cut-set, cut-tree-at, start-tree, middle-at, left-half-at, right-half-at, left_is, right_is, left-put, right-put}
 use Rattle.commits.specs.Path.{is_none}
 
 module _ {K : Type 0} (m : ℕ) (own : K) (keys : ℕ → K) (p : Parent K) (l r : Tree K) where

@@ -1,7 +1,7 @@
 -- Whether there is anybody to seal to, from how a part is taken apart.
 -- Assumes nothing.
-use Rattle.std.proofs.Common.{◌≡◌, ℕ, Bool, true, false, not, ◌||◌, List, [], ◌∷◌, ◌++◌, sym, refl, ap, ◌∙◌}
-use Rattle.theory.specs.Tree.{Tree, Leaf, Parent, node, leaf, blank_leaf, occupied, blank_parent, keyed, is_blank, key_at, resolution}
+use Rattle.std.proofs.Common.{◌≡◌, ℕ, true, not, ◌||◌, List, [], ◌∷◌, ◌++◌, sym, refl, ap, ◌∙◌}
+use Rattle.theory.specs.Tree.{Tree, Leaf, Parent, node, leaf, blank_leaf, occupied, blank_parent, keyed, is_blank, resolution}
 use Rattle.ratchet_tree.proofs.Appending.{resolution-keyed, resolution-blank}
 use Rattle.commits.specs.Path.{is_none}
 

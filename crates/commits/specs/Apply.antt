@@ -1,7 +1,7 @@
 -- What carrying out a commit answers.
 -- `Crowded`, `Asked`, `Stopped`, `Ready`: the tree before the path, or why there is none; `welcomes`: how many boxes are for a newcomer's init key; `Applies`: the tree after, and what the message holds; `MessageCounts`, `Counting`: the counts alone.
 -- Assumes nothing.
-use Rattle.std.specs.Prelude.{◌≡◌, ℕ, ◌+◌, true, List, map, length, Some, None, Ok, Err, vec_items, Result}
+use Rattle.std.specs.Prelude.{◌≡◌, ℕ, ◌+◌, map, length, Some, None, Ok, Err, vec_items, Result}
 use Rattle.theory.specs.Group.{Change, renew, remove, add, Commit, refusal, readied, laid_by}
 use Rattle.theory.specs.Path.{Laid, laid}
 use Rattle.theory.specs.Tree.{Tree}

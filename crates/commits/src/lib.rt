@@ -1,4 +1,6 @@
 // Commits: what is asked, who may ask it, the path that is laid, and the tree that comes of it.
+#![tactic(auto)]
+
 mod carry;
 mod change;
 mod count;

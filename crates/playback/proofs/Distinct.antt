@@ -1,5 +1,5 @@
 -- No two lines are alike.
-use Rattle.std.proofs.Common.{◌≡◌, ℕ, ◌+◌, ◌^◌, ◌<◌, List, [], ◌∷◌, ◌++◌, map, length, All, sym, refl, ap, ◌∙◌, subst, ap₂, append_assoc, arith}
+use Rattle.std.proofs.Common.{◌≡◌, ℕ, ◌^◌, ◌<◌, List, [], ◌∷◌, ◌++◌, map, length, All, sym, refl, ap, ◌∙◌, subst, ap₂, append_assoc, arith}
 use Rattle.std.proofs.lemmas.Fmt.{decimal_nonempty, decimal_injective}
 use Rattle.std.proofs.lemmas.List.Elements.{All-nil, All-cons, All-head, All-tail, All-append, All-map, All-weaker}
 use Rattle.std.proofs.lemmas.List.{length-append, append_cancel_right}
@@ -134,9 +134,9 @@ unfolding words_of
 words-lack r h =
     let nodes : List (List ℕ) = map cell_bytes (cells r.tree) in
     let keys : All (Lacks 32) (decimal r.keys ∷ nodes) =
-        All-cons (Lacks 32) (decimal r.keys) nodes (wide-lacks r.keys h.keys) (cells-lack (cells r.tree) h.nodes) in
+    All-cons (Lacks 32) (decimal r.keys) nodes (wide-lacks r.keys h.keys) (cells-lack (cells r.tree) h.nodes) in
     let boxes : All (Lacks 32) (decimal r.boxes ∷ decimal r.keys ∷ nodes) =
-        All-cons (Lacks 32) (decimal r.boxes) (decimal r.keys ∷ nodes) (wide-lacks r.boxes h.boxes) keys in
+    All-cons (Lacks 32) (decimal r.boxes) (decimal r.keys ∷ nodes) (wide-lacks r.boxes h.boxes) keys in
     All-cons (Lacks 32) (decimal r.epoch) (decimal r.boxes ∷ decimal r.keys ∷ nodes) (wide-lacks r.epoch h.epoch) boxes
 
 words_same : (r s : Report) → InRange r → InRange s → words_of r ≡ words_of s → Same r s

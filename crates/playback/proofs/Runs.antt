@@ -12,7 +12,7 @@ use Rattle.theory.specs.Tree.{Tree, leaf, node, Leaf, blank_leaf, occupied, Pare
 use Rattle.theory.specs.Worked.{cells, leaf_cell, parent_cell}
 use Rattle.ratchet_tree.specs.declared.member.PublicKey.{PublicKey}
 use Rattle.commits.specs.Apply.{welcomes}
-use Rattle.commits.specs.Commits.{change_of, commit_of}
+use Rattle.commits.specs.Commits.{commit_of}
 use Rattle.commits.specs.declared.change.Commit.{Commit}
 use Rattle.scripts.specs.Line.{InRange, line_bytes}
 use Rattle.playback.specs.Laws.{StepIsRule, IsRun}

@@ -1,6 +1,6 @@
 -- One answer after another.
 -- Assumes nothing.
-use Rattle.std.proofs.Common.{◌≡◌, ℕ, suc, ◌+◌, List, [], ◌∷◌, ◌++◌, None, sym, refl, ap, ◌∙◌, subst, ap₂, append_assoc}
+use Rattle.std.proofs.Common.{◌≡◌, ℕ, suc, List, [], ◌∷◌, ◌++◌, None, sym, refl, ap, ◌∙◌, subst, ap₂, append_assoc}
 use Rattle.std.proofs.lemmas.List.{append-nil}
 use Rattle.theory.specs.Group.{refusal}
 use Rattle.theory.specs.Tree.{Tree}

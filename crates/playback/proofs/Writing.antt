@@ -1,5 +1,5 @@
 -- Appends, one after another.
-use Rattle.std.proofs.Common.{◌≡◌, cond, List, [], ◌∷◌, ◌++◌, is_ok, Result, sym, refl, ap, ◌∙◌, append_assoc}
+use Rattle.std.proofs.Common.{◌≡◌, cond, List, ◌++◌, is_ok, Result, ap, ◌∙◌, append_assoc}
 use Rattle.ratchet_tree.specs.Keys.{Appends}
 
 module _ {X T E : Type 0} where

@@ -1,4 +1,6 @@
 // What a station does with a script, and what it prints of each commit.
+#![tactic(auto)]
+
 pub mod laws;
 mod report;
 mod script;

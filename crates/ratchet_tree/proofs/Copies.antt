@@ -1,13 +1,13 @@
 -- Lines of nodes that show the same: copies, and blank nodes.
 -- Assumes nothing.
-use Rattle.std.proofs.Common.{◌≡◌, ℕ, zero, suc, ◌+◌, ◌-◌, ◌*◌, ◌<◌, ◌≤◌, List, [], ◌∷◌, ◌++◌, map, length, get_or, take, drop, replicate, sym, refl, ap, ◌∙◌, ap₂, append_assoc, arith}
+use Rattle.std.proofs.Common.{◌≡◌, ℕ, zero, suc, ◌+◌, ◌-◌, ◌<◌, ◌≤◌, List, [], ◌∷◌, ◌++◌, map, length, get_or, take, drop, replicate, sym, refl, ap, ◌∙◌, ap₂, append_assoc, arith}
 use Rattle.std.proofs.lemmas.List.{take_more, map-append, replicate_more, length-map, length-append, length-replicate, take-replicate, drop-replicate, get_or-replicate}
 use Rattle.theory.specs.Tree.{Tree, Leaf, Parent, leaf, node, blank_leaf, blank_parent, blank_tree}
 use Rattle.tree_math.specs.Span.{span}
 use Rattle.tree_math.proofs.Span.{span-suc, span_pos, built-left, built-middle, built-right}
 use Rattle.ratchet_tree.specs.declared.member.PublicKey.{PublicKey}
 use Rattle.ratchet_tree.specs.declared.node.Node.{Node}
-use Rattle.ratchet_tree.specs.Nodes.{leaf_of, parent_of, seen, tree_of, no_node}
+use Rattle.ratchet_tree.specs.Nodes.{seen, tree_of, no_node}
 
 abbrev pub Seen : Type 0
 Seen = Leaf PublicKey × Parent PublicKey

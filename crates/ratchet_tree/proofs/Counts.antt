@@ -1,13 +1,12 @@
 -- How many members and leaves a part can have, and where a member can sit in it.
 -- Assumes nothing.
-use Rattle.std.proofs.Common.{◌≡◌, ℕ, zero, suc, ◌+◌, ◌-◌, ◌*◌, ◌/◌, ◌<◌, ◌≤◌, Bool, true, false, cond, not, List, length, get_or, take, drop, Some, None, Option, sym, refl, ap, ◌∙◌, arith}
-use Rattle.std.specs.Option.{option_map}
+use Rattle.std.proofs.Common.{◌≡◌, ℕ, zero, suc, ◌+◌, ◌*◌, ◌<◌, ◌≤◌, Bool, true, false, cond, List, length, take, drop, Some, None, Option, sym, refl, ap, ◌∙◌, arith}
 use Rattle.theory.specs.Limits.{max_depth}
-use Rattle.theory.specs.Tree.{Tree, leaf, node, Leaf, blank_leaf, occupied, is_at, is_blank, members, leaves, position, height, or_else}
+use Rattle.theory.specs.Tree.{Tree, leaf, node, is_at, is_blank, members, leaves, position, height, or_else}
 use Rattle.tree_math.specs.Span.{span}
-use Rattle.tree_math.proofs.Span.{span-suc, span-bound}
+use Rattle.tree_math.proofs.Span.{span-bound}
 use Rattle.ratchet_tree.specs.declared.node.Node.{Node}
-use Rattle.ratchet_tree.specs.Nodes.{leaf_of, parent_of, tree_of, no_node}
+use Rattle.ratchet_tree.specs.Nodes.{tree_of}
 use Rattle.ratchet_tree.specs.declared.part.Part.{Part}
 use Rattle.ratchet_tree.specs.Parts.{part_tree}
 use Rattle.ratchet_tree.specs.declared.member.PublicKey.{PublicKey}

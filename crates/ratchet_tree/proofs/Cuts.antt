@@ -1,13 +1,12 @@
 -- A line of nodes cut at its middle node, and what stands where after a part of it was written.
 -- `Cut g ns l x r`: the line ns is l, then x, then r, each half of height g. One write after another keeps a cut.
 -- Assumes nothing.
-use Rattle.std.proofs.Common.{◌≡◌, ℕ, zero, suc, ◌+◌, ◌-◌, ◌/◌, ◌<◌, ◌≤◌, List, [], ◌∷◌, ◌++◌, length, get_or, take, drop, set, sym, refl, ap, ◌∙◌, subst, arith}
+use Rattle.std.proofs.Common.{◌≡◌, ℕ, zero, suc, ◌+◌, ◌-◌, ◌/◌, ◌<◌, ◌≤◌, List, ◌∷◌, ◌++◌, length, get_or, take, drop, set, sym, refl, ap, ◌∙◌, arith}
 use borrow.Rule.Slice.PartMut.{put_mid, post_of}
-use Rattle.std.proofs.lemmas.List.{length-drop, take_all, get_or-set_same}
+use Rattle.std.proofs.lemmas.List.{take_all, get_or-set_same}
 use Rattle.tree_math.specs.Span.{span, left_half, right_half}
 use Rattle.tree_math.proofs.Span.{span-suc, span_pos, split-nodes, take-length, drop-length, built-left, built-middle, built-right, built-length, middle-set-is, left-write-is, right-write-is}
-use Rattle.theory.specs.Tree.{Tree, leaf, node}
-use Rattle.ratchet_tree.specs.declared.member.PublicKey.{PublicKey}
+use Rattle.theory.specs.Tree.{leaf, node}
 use Rattle.ratchet_tree.specs.declared.node.Node.{Node}
 use Rattle.ratchet_tree.specs.Nodes.{leaf_of, parent_of, tree_of, no_node}
 use Rattle.ratchet_tree.proofs.Trees.{tree-suc}

@@ -1,6 +1,6 @@
 -- The key that a member holds at a height, by where it sits.
 -- Assumes nothing.
-use Rattle.std.proofs.Common.{◌≡◌, ℕ, zero, suc, true, false, cond, ◌||◌, eqb, List, [], sym, refl, ap, ◌∙◌}
+use Rattle.std.proofs.Common.{◌≡◌, ℕ, suc, true, false, cond, ◌||◌, eqb, List, [], ◌∙◌}
 use Rattle.std.proofs.lemmas.Bool.{cond-true, cond-false, eq-eqb, ne_eqb}
 use Rattle.theory.specs.Held.{held_at, node_key_held}
 use Rattle.theory.specs.Tree.{Tree, leaf, node, Leaf, Parent, is_at, key_at, seated, height}

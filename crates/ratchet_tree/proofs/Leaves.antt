@@ -1,11 +1,10 @@
 -- The leaves of a line of nodes, from the left: what is asked of a tree, asked of them one by one.
 -- Assumes nothing.
-use Rattle.std.proofs.Common.{◌≡◌, ℕ, zero, suc, ◌+◌, ◌-◌, ◌*◌, ◌/◌, ◌<◌, ◌≤◌, Bool, true, false, cond, not, ◌&&◌, ◌||◌, ◌⊎◌, List, [], ◌∷◌, ◌++◌, length, get_or, take, drop, sym, refl, ap, ◌∙◌, ap₂, inl, inr, append_assoc, arith, below_more}
+use Rattle.std.proofs.Common.{◌≡◌, ℕ, zero, suc, ◌+◌, ◌-◌, ◌*◌, ◌/◌, ◌<◌, ◌≤◌, Bool, true, false, not, ◌&&◌, ◌||◌, List, [], ◌∷◌, ◌++◌, length, get_or, take, drop, sym, refl, ap, ◌∙◌, ap₂, inl, inr, arith, below_more}
 use Rattle.std.proofs.lemmas.List.{get_or-take, get_or-drop, length-append, get_or_append_left, get_or-append_right, get_or_default}
 use Rattle.std.proofs.lemmas.Bool.{or_left, or_right, or_from, cases_lt}
 use Rattle.theory.specs.Tree.{Tree, Leaf, leaf, node, blank_leaf, is_at, is_blank, seated, full}
 use Rattle.tree_math.specs.Span.{span}
-use Rattle.tree_math.proofs.Span.{span-suc}
 use Rattle.ratchet_tree.specs.declared.member.PublicKey.{PublicKey}
 use Rattle.ratchet_tree.specs.declared.node.Node.{Node}
 use Rattle.ratchet_tree.specs.Nodes.{leaf_of, tree_of, no_node}

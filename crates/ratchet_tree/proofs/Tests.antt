@@ -1,6 +1,6 @@
 -- Tests that stop early: the answer of `a || b` and of `a && b` by its first part, then by its second.
 -- Assumes nothing.
-use Rattle.std.proofs.Common.{◌≡◌, Bool, true, false, ◌&&◌, ◌||◌, sym, refl, ap, ◌∙◌, ap₂}
+use Rattle.std.proofs.Common.{◌≡◌, Bool, true, false, ◌&&◌, ◌||◌, sym, ap, ◌∙◌}
 
 pub or-first : {x a : Bool} (b : Bool) → x ≡ a → x ≡ true → x ≡ (a || b)
 or-first {x} {a} b e t = t ∙ ap (λ (y : Bool). y || b) (sym t ∙ e)

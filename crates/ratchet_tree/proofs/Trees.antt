@@ -3,9 +3,8 @@
 use Rattle.std.proofs.Common.{◌≡◌, ℕ, zero, suc, ◌+◌, ◌-◌, ◌<◌, List, length, get_or, take, drop, sym, refl, ap, ◌∙◌, arith}
 use Rattle.std.proofs.lemmas.List.{get_or_default}
 use Rattle.tree_math.specs.Span.{span, middle, left_half, right_half}
-use Rattle.tree_math.proofs.Span.{span_pos, span-suc, left-half-is, right-half-is, left-length, right-length, middle-is}
-use Rattle.theory.specs.Tree.{Tree, leaf, node}
-use Rattle.ratchet_tree.specs.declared.member.PublicKey.{PublicKey}
+use Rattle.tree_math.proofs.Span.{span_pos, left-half-is, right-half-is, left-length, right-length, middle-is}
+use Rattle.theory.specs.Tree.{leaf, node}
 use Rattle.ratchet_tree.specs.declared.node.Node.{Node}
 use Rattle.ratchet_tree.specs.Nodes.{leaf_of, parent_of, tree_of, no_node}
 

@@ -7,7 +7,6 @@ use Rattle.theory.specs.Tree.{Tree, full, height, grown, added}
 use Rattle.ratchet_tree.specs.Trees.{the_tree}
 use Rattle.ratchet_tree.specs.declared.error.TreeError.{TreeError}
 use Rattle.ratchet_tree.specs.declared.error.TreeError.TheVariants.{NoRoom, OutOfMemory}
-use Rattle.ratchet_tree.specs.declared.member.MemberId.{MemberId}
 use Rattle.ratchet_tree.specs.declared.member.PublicKey.{PublicKey}
 use Rattle.ratchet_tree.specs.declared.tree.RatchetTree.{RatchetTree}
 

@@ -1,7 +1,7 @@
 -- The tree that a line of nodes stands for.
 -- `leaf_of`, `parent_of`: a node taken as a leaf or as a parent; `seen`: both; `tree_of`: the tree of a height in a line of nodes.
 -- Assumes nothing.
-use Rattle.std.specs.Prelude.{ℕ, zero, suc, ◌+◌, List, [], ◌∷◌, map, length, take, drop, vec_items, slice_index_or}
+use Rattle.std.specs.Prelude.{ℕ, zero, suc, ◌+◌, List, map, take, drop, vec_items, slice_index_or}
 use Rattle.tree_math.specs.Span.{span}
 use Rattle.theory.specs.Tree as theory
 use Rattle.ratchet_tree.specs.declared.member.MemberId.{MemberId}

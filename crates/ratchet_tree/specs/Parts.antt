@@ -1,7 +1,7 @@
 -- A part of a tree, and how it is taken apart.
 -- `part_tree`: the tree that a part is; `Shows`: what taking it apart gives.
 -- Assumes nothing.
-use Rattle.std.specs.Prelude.{◌≡◌, ℕ, suc}
+use Rattle.std.specs.Prelude.{◌≡◌, suc}
 use Rattle.theory.specs.Tree.{Tree, leaf, node}
 use Rattle.ratchet_tree.specs.Nodes.{leaf_of, parent_of, tree_of}
 use Rattle.ratchet_tree.specs.declared.member.PublicKey.{PublicKey}

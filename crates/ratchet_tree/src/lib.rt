@@ -1,4 +1,6 @@
 // The ratchet tree: members at its leaves, node keys at its parents, and what is asked of it and done to it.
+#![tactic(auto)]
+
 mod add;
 mod ask;
 mod copy;

@@ -2,7 +2,7 @@
 -- `Lacks b text`: b does not stand in the text; `lines_of input`: the input's lines (`before b lines`: b in front of the first);
 -- `ended lines`: lines, each with a newline behind it; `max_lines`: the most lines that a script may have.
 -- Assumes nothing.
-use Rattle.std.specs.Prelude.{◌≡◌, ℕ, cond, List, [], ◌∷◌, ◌++◌, All, ◌==◌, ◌≢◌}
+use Rattle.std.specs.Prelude.{ℕ, cond, List, [], ◌∷◌, ◌++◌, All, ◌==◌, ◌≢◌}
 
 -- the byte b does not stand in the text
 abbrev pub Lacks : ℕ → List ℕ → Type 0

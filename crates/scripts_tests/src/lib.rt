@@ -1,3 +1,5 @@
+#![tactic(auto)]
+
 // Tests of the lines of a script.
 #[cfg(test)]
 mod tests {

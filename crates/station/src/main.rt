@@ -1,4 +1,6 @@
 // Plays a script of commits and prints the group's tree after each.
+#![tactic(auto)]
+
 use anyhow::anyhow;
 use playback::play;
 use std::env;

@@ -1,3 +1,5 @@
+#![tactic(auto)]
+
 // Whole scripts, played through the call that `station` makes.
 #[cfg(test)]
 mod tests {

@@ -1,9 +1,9 @@
-use Rattle.std.proofs.Common.{◌≡◌, ℕ, map, length, vec_items, sym, ap, ◌∙◌, arith}
+use Rattle.std.proofs.Common.{◌≡◌, map, length, vec_items, sym, ap, ◌∙◌, arith}
 use Rattle.std.proofs.lemmas.List.{length-map}
-use Rattle.theory.specs.Group.{laid_by, readied}
+use Rattle.theory.specs.Group.{laid_by}
 use Rattle.theory.specs.Path.{laid}
 use Rattle.ratchet_tree.specs.Trees.{the_tree}
-use Rattle.commits.specs.Commits.{change_of, commit_of}
+use Rattle.commits.specs.Commits.{commit_of}
 use Rattle.commits.specs.Path.{key_from}
 use Rattle.commits.specs.Targets.{target_of}
 use Rattle.commits.proofs.carry.apply.Goals as goal

@@ -1,4 +1,4 @@
-use Rattle.std.proofs.Common.{◌≡◌, not, sym, refl, ap, ◌∙◌}
+use Rattle.std.proofs.Common.{not, ◌∙◌}
 use Rattle.theory.specs.Tree.{resolution}
 use Rattle.ratchet_tree.specs.Nodes.{leaf_of, numbers, parent_of}
 use Rattle.ratchet_tree.specs.Parts.{part_tree}

@@ -1,8 +1,7 @@
-use Rattle.std.proofs.Common.{◌≡◌, ℕ, ◌+◌, ◌-◌, ◌/◌, ◌≤◌, not, length, take, sym, refl, ap, ◌∙◌, arith}
+use Rattle.std.proofs.Common.{◌+◌, ◌-◌, ◌/◌, ◌≤◌, not, length, take, sym, ap, ◌∙◌, arith}
 use mir.Val.{bool_byte}
 use Rattle.theory.specs.Path.{laid}
 use Rattle.theory.specs.Tree.{leaf, resolution, seated}
-use Rattle.ratchet_tree.specs.Nodes.{tree_of}
 use Rattle.ratchet_tree.proofs.Cuts.{behind, cut-start, leaf-set, left-put, past-middle}
 use Rattle.ratchet_tree.proofs.Trees.{first_below, left-span, right-span, tree-first}
 use Rattle.commits.specs.Path.{is_none, key_from}

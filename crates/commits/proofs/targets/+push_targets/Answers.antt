@@ -1,4 +1,4 @@
-use Rattle.std.proofs.Common.{◌≡◌, vec_items, sym, refl, ap, ◌∙◌}
+use Rattle.std.proofs.Common.{vec_items}
 use Rattle.theory.specs.Tree.{node}
 use Rattle.ratchet_tree.specs.Nodes.{leaf_of, parent_of}
 use Rattle.ratchet_tree.specs.Parts.{part_tree}

@@ -1,4 +1,4 @@
-use Rattle.std.proofs.Common.{◌≡◌, [], ◌∷◌, vec_items, sym, refl, ap, ◌∙◌}
+use Rattle.std.proofs.Common.{[], ◌∷◌, vec_items, sym, ap}
 use Rattle.theory.specs.Worked.{parent_cell}
 use Rattle.ratchet_tree.proofs.Appending.{appends-as, appends-two}
 use Rattle.playback.specs.Report.{cell_bytes}

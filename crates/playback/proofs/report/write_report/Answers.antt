@@ -1,4 +1,4 @@
-use Rattle.std.proofs.Common.{[], ◌∷◌, ◌++◌, vec_items, refl, ap, ◌∙◌}
+use Rattle.std.proofs.Common.{[], ◌∷◌, ◌++◌, vec_items, refl, ap}
 use Rattle.theory.specs.Worked.{cells}
 use Rattle.ratchet_tree.proofs.Appending.{appends-as}
 use Rattle.ratchet_tree.specs.Parts.{part_tree}

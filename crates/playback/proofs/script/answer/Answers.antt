@@ -1,4 +1,4 @@
-use Rattle.std.proofs.Common.{◌≡◌, sym, refl, ap, ◌∙◌, subst, ap₂, add-one}
+use Rattle.std.proofs.Common.{sym, ap, subst, add-one}
 use Rattle.ratchet_tree.specs.Trees.{the_tree}
 use Rattle.commits.specs.Apply.{Stopped}
 use Rattle.commits.specs.Commits.{commit_of}

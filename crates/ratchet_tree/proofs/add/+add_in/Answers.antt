@@ -1,11 +1,11 @@
 use Rattle.std.proofs.Common.{◌≡◌, ℕ, ◌+◌, ◌-◌, ◌/◌, true, false, List, length, get_or, take, drop, sym, refl, ap, ◌∙◌, ap₂, arith}
 use Rattle.tree_math.specs.Span.{span, left_half, right_half}
-use Rattle.theory.specs.Tree.{Tree, leaf, node, full, added, unmerged_at}
+use Rattle.theory.specs.Tree.{leaf, node, full, added, unmerged_at}
 use Rattle.ratchet_tree.specs.declared.member.PublicKey.{PublicKey}
 use Rattle.ratchet_tree.specs.declared.node.Node.{Node}
 use Rattle.ratchet_tree.specs.Nodes.{parent_of, tree_of, no_node}
 use Rattle.ratchet_tree.proofs.Adding.{added-left, added-right, added-nowhere}
-use Rattle.ratchet_tree.proofs.Cuts.{Cut, marked, behind, left_put, right_put, start-tree, marked-cut, middle-node, left-half-at, right-half-at, left_is, right_is, left-put, right-put, cut-tree-at, middle-within, leaf-set}
+use Rattle.ratchet_tree.proofs.Cuts.{marked, behind, left_put, right_put, start-tree, marked-cut, middle-node, left-half-at, right-half-at, left_is, right_is, left-put, right-put, cut-tree-at, middle-within, leaf-set}
 use Rattle.ratchet_tree.proofs.Trees.{tree-first, first_below, left-span, right-span}
 use Rattle.ratchet_tree.proofs.add.+add_in.Goals as goal
 

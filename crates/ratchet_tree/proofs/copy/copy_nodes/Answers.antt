@@ -1,4 +1,4 @@
-use Rattle.std.proofs.Common.{◌≡◌, [], ◌∷◌, ◌++◌, map, vec_items, sym, refl, ap, ◌∙◌}
+use Rattle.std.proofs.Common.{[], ◌∷◌, ◌++◌, map, vec_items, refl, ap, ◌∙◌}
 use Rattle.ratchet_tree.specs.declared.node.Node.{Node}
 use Rattle.std.proofs.lemmas.List.{take_all}
 use Rattle.ratchet_tree.specs.Nodes.{seen}

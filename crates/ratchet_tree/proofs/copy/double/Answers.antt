@@ -1,4 +1,4 @@
-use Rattle.std.proofs.Common.{◌≡◌, ◌-◌, map, length, vec_items, sym, refl, ap, ◌∙◌, arith}
+use Rattle.std.proofs.Common.{◌-◌, map, length, vec_items, arith}
 use Rattle.ratchet_tree.specs.Nodes.{seen}
 use Rattle.ratchet_tree.proofs.Copies.{blanks-more}
 use Rattle.ratchet_tree.proofs.copy.double.Goals as goal

@@ -1,4 +1,4 @@
-use Rattle.std.proofs.Common.{◌≡◌, sym, refl, ap, ◌∙◌, arith, rules}
+use Rattle.std.proofs.Common.{sym, arith, rules}
 use Rattle.ratchet_tree.proofs.Appending.{among-at, among_none}
 use Rattle.ratchet_tree.proofs.keys.is_among.Goals as goal
 

@@ -1,4 +1,4 @@
-use Rattle.std.proofs.Common.{◌≡◌, ℕ, suc, sym, refl, ap, ◌∙◌, arith}
+use Rattle.std.proofs.Common.{◌≡◌, suc, sym, ap, ◌∙◌, arith}
 use Rattle.theory.specs.Held.{held_at}
 use Rattle.theory.specs.Tree.{seated, height}
 use Rattle.ratchet_tree.specs.Nodes.{parent_of, leaf_of}

@@ -1,6 +1,6 @@
 use Rattle.std.proofs.Common.{◌≡◌, ◌+◌, Bool, true, false, cond, not, sym, refl, ap, ◌∙◌, ap₂, arith}
 use mir.Val.{bool_byte}
-use Rattle.theory.specs.Tree.{members, is_blank}
+use Rattle.theory.specs.Tree.{members}
 use Rattle.ratchet_tree.proofs.Counts.{members-few}
 use Rattle.ratchet_tree.proofs.part.Part.+member_count.Goals as goal
 

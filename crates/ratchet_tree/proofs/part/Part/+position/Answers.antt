@@ -1,6 +1,5 @@
 use Rattle.std.proofs.Common.{◌≡◌, ℕ, ◌+◌, ◌/◌, ◌<◌, Bool, cond, length, Some, None, Option, sym, ap, ◌∙◌, ap₂, arith}
 use Rattle.theory.specs.Tree.{position, leaves, or_else}
-use Rattle.tree_math.proofs.Span.{span-bound}
 use Rattle.ratchet_tree.specs.Parts.{part_tree}
 use Rattle.ratchet_tree.proofs.Counts.{leaves-part, position-below}
 use Rattle.ratchet_tree.proofs.part.Part.+position.Goals as goal

@@ -1,4 +1,4 @@
-use Rattle.std.proofs.Common.{◌≡◌, vec_items, sym, refl, ap, ◌∙◌}
+use Rattle.std.proofs.Common.{vec_items, sym, refl, ap, ◌∙◌}
 use Rattle.theory.specs.Tree.{leaf_key}
 use Rattle.ratchet_tree.specs.Parts.{part_tree}
 use Rattle.ratchet_tree.proofs.Appending.{appends-as, appends-two}

@@ -1,4 +1,4 @@
-use Rattle.std.proofs.Common.{◌≡◌, [], ◌∷◌, vec_items, sym, refl, ap, ◌∙◌}
+use Rattle.std.proofs.Common.{[], ◌∷◌, vec_items, sym, refl, ap, ◌∙◌}
 use Rattle.theory.specs.Tree.{resolution}
 use Rattle.ratchet_tree.specs.Nodes.{numbers, parent_of}
 use Rattle.ratchet_tree.specs.Parts.{part_tree}

@@ -1,4 +1,4 @@
-use Rattle.std.proofs.Common.{not, sym, ap, ◌∙◌}
+use Rattle.std.proofs.Common.{not, sym, ap, ◌∙◌, arith}
 use Rattle.theory.specs.Tree.{is_blank}
 use Rattle.ratchet_tree.specs.Nodes.{leaf_of}
 use Rattle.ratchet_tree.specs.Parts.{part_tree}
@@ -6,7 +6,7 @@ use Rattle.ratchet_tree.proofs.Leaves.{leaf-below, one_passes, none_more, none_p
 use Rattle.ratchet_tree.proofs.part.Part.is_full.Goals as goal
 
 pub bounds-nodes-leaf : goal.bounds-nodes-leaf
-bounds-nodes-leaf c = leaf-below c.args.self.height c.args.self.nodes.now c.args.self.whole c.loop-leaf.leaf c.loop-leaf-test.true
+bounds-nodes-leaf c = omega (arith, leaf-below c.args.self.height c.args.self.nodes.now c.args.self.whole c.loop-leaf.leaf c.loop-leaf-test.true)
 
 pub loop-leaf-preserved : goal.loop-leaf-preserved
 loop-leaf-preserved c =

@@ -1,11 +1,11 @@
-use Rattle.std.proofs.Common.{sym, ◌∙◌}
+use Rattle.std.proofs.Common.{sym, ◌∙◌, arith}
 use Rattle.theory.specs.Tree.{is_at}
 use Rattle.ratchet_tree.specs.Parts.{part_tree}
 use Rattle.ratchet_tree.proofs.Leaves.{leaf-below, one_passes, none_more, none_passes, seated-line}
 use Rattle.ratchet_tree.proofs.part.Part.is_seated.Goals as goal
 
 pub bounds-nodes-leaf : goal.bounds-nodes-leaf
-bounds-nodes-leaf c = leaf-below c.args.self.height c.args.self.nodes.now c.args.self.whole c.loop-leaf.leaf c.loop-leaf-test.true
+bounds-nodes-leaf c = omega (arith, leaf-below c.args.self.height c.args.self.nodes.now c.args.self.whole c.loop-leaf.leaf c.loop-leaf-test.true)
 
 pub loop-leaf-preserved : goal.loop-leaf-preserved
 loop-leaf-preserved c =

@@ -1,4 +1,4 @@
-use Rattle.std.proofs.Common.{◌≡◌, ℕ, List, [], ◌++◌, get_or, take, vec_items, sym, refl, ap, ◌∙◌, append_assoc, arith, rules}
+use Rattle.std.proofs.Common.{ℕ, List, ◌++◌, get_or, take, vec_items, sym, refl, ap, ◌∙◌, append_assoc}
 use Rattle.ratchet_tree.specs.declared.member.PublicKey.{PublicKey}
 use Rattle.std.proofs.lemmas.List.{append-nil, take_all}
 use Rattle.theory.specs.Tree.{leaf_key, leaf_keys}

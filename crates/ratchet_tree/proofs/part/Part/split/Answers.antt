@@ -1,5 +1,4 @@
-use Rattle.std.proofs.Common.{◌≡◌, ℕ, ◌-◌, ◌<◌, length, sym, refl, ap, ◌∙◌, ap₂, arith, rules}
-use Rattle.ratchet_tree.specs.Nodes.{tree_of}
+use Rattle.std.proofs.Common.{◌<◌, length, arith, rules}
 use Rattle.ratchet_tree.proofs.Trees.{tree-leaf, tree-node, left-span, right-span, first_below}
 use Rattle.ratchet_tree.proofs.part.Part.split.Goals as goal
 

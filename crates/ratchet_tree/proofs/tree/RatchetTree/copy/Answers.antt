@@ -1,4 +1,4 @@
-use Rattle.std.proofs.Common.{◌≡◌, vec_items, ap, ◌∙◌, arith}
+use Rattle.std.proofs.Common.{vec_items, ap, ◌∙◌, arith}
 use Rattle.ratchet_tree.specs.Nodes.{tree_of}
 use Rattle.ratchet_tree.proofs.Copies.{same-tree, same_length}
 use Rattle.ratchet_tree.proofs.tree.RatchetTree.copy.Goals as goal

@@ -1,8 +1,7 @@
-use Rattle.std.proofs.Common.{◌≡◌, ℕ, suc, ◌+◌, ◌≤◌, true, false, List, ◌++◌, map, length, replicate, vec_items, sym, refl, ap, ◌∙◌, ap₂, add-one, arith}
+use Rattle.std.proofs.Common.{◌≡◌, ℕ, suc, ◌+◌, true, false, List, ◌++◌, map, length, replicate, vec_items, sym, refl, ap, ◌∙◌, add-one, arith}
 use Rattle.std.proofs.lemmas.Bool.{cond-true, cond-false}
-use Rattle.theory.specs.Tree.{Tree, node, blank_parent, blank_tree, full, grown}
+use Rattle.theory.specs.Tree.{node, blank_parent, blank_tree, full, grown}
 use Rattle.tree_math.specs.Span.{span}
-use Rattle.ratchet_tree.specs.declared.member.PublicKey.{PublicKey}
 use Rattle.ratchet_tree.specs.declared.node.Node.{Node}
 use Rattle.ratchet_tree.specs.Nodes.{seen, tree_of}
 use Rattle.ratchet_tree.proofs.Copies.{same-tree, same_length, doubled-tree, doubled-length, blank_seen}
