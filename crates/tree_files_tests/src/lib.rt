@@ -1,3 +1,5 @@
+#![tactic(auto)]
+
 // Tree files, good ones and ones spoilt in every way, each with its number.
 #[cfg(test)]
 mod tests {
