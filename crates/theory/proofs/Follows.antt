@@ -383,7 +383,7 @@ stock-known P m g a b f =
 welcome-holds : (P : Secret → Type 0) (a : Change) (e : ℕ) (s : Secret) → P s → All (λ (b : Box). P b.holds) (welcome a e s)
 welcome-holds P renew e s k = all_nil (λ (b : Box). P b.holds)
 welcome-holds P (remove m) e s k = all_nil (λ (b : Box). P b.holds)
-welcome-holds P (add m) e s k = all_one (λ (b : Box). P b.holds) (record { key = drawn init_key m e; holds = s }) k
+welcome-holds P (add m) e s k = all_one (λ (b : Box). P b.holds) _ k
 
 module _ (c : Commit) (g : Group) where
   -- the next epoch, the path that leads to it, and the message, if the commit is carried out
