@@ -13,7 +13,7 @@ use Rattle.commits.specs.Refusals.{number_of}
 use Rattle.commits.specs.declared.carry.CommitError.{CommitError}
 use Rattle.commits.specs.declared.carry.CommitError.TheVariants.{Refused, OutOfMemory}
 use Rattle.wire.specs.Bytes.{Half}
-use Rattle.messages.specs.Letters.{letter_of, Stands, Concerns, TookLetter, Delivered, LettersDeliver}
+use Rattle.messages.specs.Letters.{letter_of, Stands, Concerns, TookLetter, Delivered, LettersDeliver, Arriving, LettersArrive}
 use Rattle.messages.specs.Message.{Message, Fits, encode, message_of}
 use Rattle.messages.specs.Received.{Declined, TakesBytes}
 use Rattle.messages.specs.Take.{Left, Taken, message_refusal}
@@ -46,7 +46,7 @@ module _ (h after : Handset) (m : Message) (fits : Fits m) (free : message_refus
 -- A LETTER of a run.
 module _
     (half : Secret → PublicKey) (bytes : Box → List ℕ) (halves : (s : Secret) → Half (half s)) (boxed : (b : Box) → length (bytes b) ≡ 48)
-    (f : ℕ) (member : f < nobody) (commits : ℕ → Commit) (n : ℕ) (ok : T (allowed (commits n) (group f commits n)))
+    (f : ℕ) (commits : ℕ → Commit) (n : ℕ) (ok : T (allowed (commits n) (group f commits n)))
   where
     abbrev letter : Message
     letter = letter_of half bytes f commits n
@@ -54,26 +54,32 @@ module _
     free-at : (w : ℕ) → Concerns w (commits n) (group f commits n) → message_refusal w (group f commits n).epoch (map_tree half (group f commits n).tree) letter ≡ None
     free-at = is-taken half bytes halves boxed (commits n) (group f commits n) ok (message f commits n) (message-done f commits n ok)
 
-    arrives : (h after : Handset) (r : Result CommitMessage CommitError) →
-        Stands half (group f commits n) h → Concerns h.member.0 (commits n) (group f commits n) →
-        TakesBytes h (encode letter) after r → TookLetter letter (Stands half (group f commits (suc n))) h after r
-    arrives h after r s concerned q =
-        took h after letter (letter-fits half bytes halves boxed f member commits n ok)
-        (ap₂ (λ (e : ℕ) (t : Tree PublicKey). message_refusal h.member.0 e t letter) s.epoch s.tree ∙ free-at h.member.0 concerned)
-        (Stands half (group f commits (suc n)))
-        (next-stands half bytes halves boxed f commits n ok h after s) r q
-
     delivered : Delivered half bytes f commits n
     delivered =
         record {
-          fits = letter-fits half bytes halves boxed f member commits n ok;
           taken = free-at;
           tree = next-tree half bytes halves boxed f commits n ok;
           epoch = next-epoch half bytes halves boxed f commits n ok;
           follows = next-stands half bytes halves boxed f commits n ok;
-          arrives = arrives;
           sent = next-sent half bytes halves boxed f commits n ok;
         }
 
+    -- AS BYTES.
+    module _ (member : f < nobody) where
+      arrives : (h after : Handset) (r : Result CommitMessage CommitError) →
+          Stands half (group f commits n) h → Concerns h.member.0 (commits n) (group f commits n) →
+          TakesBytes h (encode letter) after r → TookLetter letter (Stands half (group f commits (suc n))) h after r
+      arrives h after r s concerned q =
+          took h after letter (letter-fits half bytes halves boxed f member commits n ok)
+          (ap₂ (λ (e : ℕ) (t : Tree PublicKey). message_refusal h.member.0 e t letter) s.epoch s.tree ∙ free-at h.member.0 concerned)
+          (Stands half (group f commits (suc n)))
+          (next-stands half bytes halves boxed f commits n ok h after s) r q
+
+      arriving : Arriving half bytes f commits n
+      arriving = record { fits = letter-fits half bytes halves boxed f member commits n ok; arrives = arrives }
+
 pub letters-deliver : LettersDeliver
 letters-deliver = delivered
+
+pub letters-arrive : LettersArrive
+letters-arrive half bytes halves boxed f member commits n ok = arriving half bytes halves boxed f commits n ok member

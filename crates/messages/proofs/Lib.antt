@@ -1,6 +1,10 @@
 mod Peeling
 pub mod Reading
 mod Writing
+pub mod Members
+mod Nodes
+mod Growing
+pub mod Filing
 pub mod PathKeys
 pub mod Taking
 pub mod Letters

@@ -14,13 +14,13 @@ use Rattle.theory.proofs.Tests.{decided}
 use Rattle.ratchet_tree.specs.declared.member.PublicKey.{PublicKey}
 use Rattle.wire.specs.Bytes.{Half}
 use Rattle.messages.specs.Compose.{compose_refusal, message_by}
-use Rattle.messages.specs.LetterRuns.{boxes_sent, carried, halves_given, HandedOn, LetterMade, LetterRun, LetterRuns}
-use Rattle.messages.specs.Letters.{Delivered, Stands, first_halves, letter_of, sealed_bytes}
+use Rattle.messages.specs.Runs.{boxes_sent, carried, halves_given, HandedOn, LetterMade, LetterRun, RunsOfLetters}
+use Rattle.messages.specs.Letters.{Arriving, Delivered, Stands, first_halves, letter_of, sealed_bytes}
 use Rattle.messages.specs.Message.{Message, encode, message_of}
 use Rattle.messages.specs.Take.{Taken}
 use Rattle.messages.specs.declared.handset.Handset.{Handset}
 use Rattle.messages.proofs.Composing.{free-made, one-made}
-use Rattle.messages.proofs.Delivery.{letters-deliver}
+use Rattle.messages.proofs.Delivery.{letters-arrive, letters-deliver}
 use Rattle.messages.proofs.Letters.{next-sent}
 use Rattle.messages.proofs.Reading.{one-reading}
 
@@ -63,13 +63,14 @@ module _
         let c : Commit = commits n in
         let g : Group = group f commits n in
         let letter : Message = letter_of half bytes f commits n in
-        let d : Delivered half bytes f commits n = letters-deliver half bytes halves boxed f member commits n ok in
+        let d : Delivered half bytes f commits n = letters-deliver half bytes halves boxed f commits n ok in
+        let a : Arriving half bytes f commits n = letters-arrive half bytes halves boxed f member commits n ok in
         let nodes : List PublicKey = first_halves (path c g).levels (λ i. half (lock (ups i (path_key c (next c g))))) in
         record {
           free =
               ap₂ (λ (i : ℕ) (t : Tree PublicKey). compose_refusal h.member.0 i t letter.change (halves_given half c g) letter.boxes) s.epoch s.tree
               ∙ ap (λ (i : ℕ). compose_refusal i g.epoch (map_tree half g.tree) letter.change (halves_given half c g) letter.boxes) w
-              ∙ free-made c.committer g.epoch (map_tree half g.tree) letter d.fits (d.taken c.committer (inl (now-permitted f commits n ok).present));
+              ∙ free-made c.committer g.epoch (map_tree half g.tree) letter a.fits (d.taken c.committer (inl (now-permitted f commits n ok).present));
           made = λ bs x.
               one-made h letter.change (half (own_key c (next c g))) nodes letter.boxes bs x
               ∙ ap₂ (λ (i e : ℕ). encode (message_by i e letter.change (half (own_key c (next c g))) nodes letter.boxes)) w s.epoch;
@@ -80,9 +81,10 @@ module _
     one_on n h after s on =
         elim (decided (allowed (commits n) (group f commits n))) [
           | inl a ↦
-              let d : Delivered half bytes f commits n = letters-deliver half bytes halves boxed f member commits n a in
+              let d : Delivered half bytes f commits n = letters-deliver half bytes halves boxed f commits n a in
+              let b : Arriving half bytes f commits n = letters-arrive half bytes halves boxed f member commits n a in
               let q = on.letter a in
-              let same = one-reading (letter_of half bytes f commits n) (message_of q.0) d.fits q.1.0 q.1.1 in
+              let same = one-reading (letter_of half bytes f commits n) (message_of q.0) b.fits q.1.0 q.1.1 in
               d.follows h after s (subst (λ (y : Message). Taken h y after) (sym same) q.1.2)
           | inr b ↦
               subst (λ (g : Group). Stands half g after) (sym (group-refused f commits n b))
@@ -100,7 +102,8 @@ module _
     letter-run : (es : List Exposure) → LetterRun half bytes f commits es
     letter-run es =
         record {
-          delivered = letters-deliver half bytes halves boxed f member commits;
+          delivered = letters-deliver half bytes halves boxed f commits;
+          arriving = letters-arrive half bytes halves boxed f member commits;
           keeps = keeps-up;
           composed = letter-made;
           boxes = sent_is;
@@ -108,5 +111,5 @@ module _
           secret = λ until n k. main f commits es until n (subst (λ (bs : List Box). Knows bs (stocks f commits es) (talk (group f commits n).secret)) (sent_is until) k);
         }
 
-pub letter-runs : LetterRuns
-letter-runs = letter-run
+pub runs-of-letters : RunsOfLetters
+runs-of-letters = letter-run

@@ -1,16 +1,16 @@
 -- Bytes appended one part after the other.
 -- Assumes nothing.
-use Rattle.std.proofs.Common.{◌≡◌, ℕ, List, [], ◌∷◌, ◌++◌, Result, sym, refl, ap, ◌∙◌, subst, ap₂, append_assoc}
+use Rattle.std.proofs.Common.{◌≡◌, ℕ, List, ◌++◌, Result, sym, ap, ◌∙◌, subst, ap₂, append_assoc}
 use Rattle.std.specs.declared.alloc.AllocError.{AllocError}
 use Rattle.ratchet_tree.specs.Keys.{Appends}
 use Rattle.ratchet_tree.specs.declared.member.MemberId.{MemberId}
 use Rattle.ratchet_tree.specs.declared.member.PublicKey.{PublicKey}
 use Rattle.ratchet_tree.proofs.Appending.{appends-two}
 use Rattle.wire.specs.Bytes.{key_bytes, Half, Whole}
-use Rattle.messages.specs.Message.{Message, Fits, FitsChange, HeaderFits, Written, encode, head_bytes, header_bytes, change_keys, keys_bytes, boxes_bytes, kind_of, other_of}
+use Rattle.messages.specs.Message.{Message, FitsChange, HeaderFits, Written, encode, head_bytes, header_bytes, change_keys, keys_bytes, boxes_bytes, kind_of, other_of}
 use Rattle.messages.specs.declared.message.Header.{Header}
 use Rattle.messages.specs.declared.message.MessageChange.{MessageChange}
-use Rattle.messages.specs.declared.message.MessageChange.TheVariants.{Renew, Remove, Add}
+use Rattle.messages.specs.declared.message.MessageChange.TheVariants.{Add}
 
 -- the keys of an add
 pub add-written : (x : MessageChange) (m : MemberId) (k i : PublicKey) (a b d : List ℕ) → x ≡ Add m k i → b ≡ a ++ key_bytes k → d ≡ b ++ key_bytes i → d ≡ a ++ change_keys x

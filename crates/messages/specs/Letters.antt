@@ -1,12 +1,14 @@
 -- Letters: the message that each commit of a run goes out as, and that handsets take it.
 -- `letter_change`, `first_halves`, `sealed_bytes`: its parts; `letter_for`, `letter_of`: the letter of commit n;
 -- `Stands`: a handset has the public side of a group; `Concerns`: whom a commit concerns; `TookLetter`: what is answered to a letter's bytes;
--- `Delivered`: what becomes of one letter; `LettersDeliver`: of every letter of every run.
+-- `Delivered`: what becomes of one letter; `LettersDeliver`: of every letter of every run; `Arriving`, `LettersArrive`: the same of its bytes, where the founder has a member's number;
+-- `LetterRuns`: letters deliver, and what they carry stays secret.
 -- Assumes nothing.
 use Rattle.std.specs.Prelude.{◌≡◌, ℕ, zero, suc, ◌<◌, T, ◌⊎◌, List, [], ◌∷◌, ◌++◌, length, None, Ok, Err, Result, slice_index_or}
 use Rattle.theory.specs.Group.{Change, renew, remove, add, Commit, Group, own_key, path_key, path_at, laid_by, allowed, group, message}
 use Rattle.theory.specs.Limits.{nobody}
 use Rattle.theory.specs.Natural.{map_tree}
+use Rattle.theory.specs.Promise.{Main}
 use Rattle.theory.specs.Secrets.{Secret, Box, drawn, newcomer_key, init_key, lock, ups}
 use Rattle.theory.specs.Tree.{seated}
 use Rattle.ratchet_tree.specs.Trees.{the_tree}
@@ -71,8 +73,6 @@ TookLetter m Asked h after (Err (commit-error.Refused x)) = ⊥
 TookLetter m Asked h after (Err commit-error.OutOfMemory) = after ≡ h
 
 pub record Delivered (half : Secret → PublicKey) (bytes : Box → List ℕ) (f : ℕ) (commits : ℕ → Commit) (n : ℕ) : Type 0 where
-  -- the letter can be written as bytes
-  pub fits : Fits (letter_of half bytes f commits n)
   -- no handset that stands at the group and that the commit concerns refuses the letter
   pub taken :
       (w : ℕ) → Concerns w (commits n) (group f commits n) →
@@ -89,18 +89,34 @@ pub record Delivered (half : Secret → PublicKey) (bytes : Box → List ℕ) (f
   pub follows :
       (h after : Handset) → Stands half (group f commits n) h → Taken h (letter_of half bytes f commits n) after →
       Stands half (group f commits (suc n)) after
+  -- the boxes that the letter carries are the ones that are sent
+  pub sent : (group f commits (suc n)).sent ≡ (group f commits n).sent ++ message f commits n
+
+-- whatever the halves of 32 bytes and the boxes of 48 are: the letter of every commit that is allowed is delivered
+abbrev pub LettersDeliver : Type 0
+LettersDeliver =
+    (half : Secret → PublicKey) (bytes : Box → List ℕ) →
+    ((s : Secret) → Half (half s)) → ((b : Box) → length (bytes b) ≡ 48) →
+    (f : ℕ) (commits : ℕ → Commit) (n : ℕ) → T (allowed (commits n) (group f commits n)) → Delivered half bytes f commits n
+
+-- over every run of letters from a founder on: whom a letter concerns takes it and goes with the group, the boxes that the letters carry are
+-- all that was ever sent, and whoever has them all, and reads out any handsets, works out a talk secret only where it lies open
+abbrev pub LetterRuns : Type 0
+LetterRuns = LettersDeliver × Main
+
+pub record Arriving (half : Secret → PublicKey) (bytes : Box → List ℕ) (f : ℕ) (commits : ℕ → Commit) (n : ℕ) : Type 0 where
+  -- the letter can be written as bytes
+  pub fits : Fits (letter_of half bytes f commits n)
   -- and so it is with the letter's bytes: whatever is answered to them, whom the commit concerns has taken the letter and goes with the group
   pub arrives :
       (h after : Handset) (r : Result CommitMessage CommitError) →
       Stands half (group f commits n) h → Concerns h.member.0 (commits n) (group f commits n) →
       TakesBytes h (encode (letter_of half bytes f commits n)) after r →
       TookLetter (letter_of half bytes f commits n) (Stands half (group f commits (suc n))) h after r
-  -- the boxes that the letter carries are the ones that are sent
-  pub sent : (group f commits (suc n)).sent ≡ (group f commits n).sent ++ message f commits n
 
--- whatever the halves of 32 bytes and the boxes of 48 are, and whichever member founds the group: the letter of every commit that is allowed is delivered
-abbrev pub LettersDeliver : Type 0
-LettersDeliver =
+-- whatever the halves of 32 bytes and the boxes of 48 are, and whichever member founds the group: the letter of every commit that is allowed arrives as bytes
+abbrev pub LettersArrive : Type 0
+LettersArrive =
     (half : Secret → PublicKey) (bytes : Box → List ℕ) →
     ((s : Secret) → Half (half s)) → ((b : Box) → length (bytes b) ≡ 48) →
-    (f : ℕ) → f < nobody → (commits : ℕ → Commit) (n : ℕ) → T (allowed (commits n) (group f commits n)) → Delivered half bytes f commits n
+    (f : ℕ) → f < nobody → (commits : ℕ → Commit) (n : ℕ) → T (allowed (commits n) (group f commits n)) → Arriving half bytes f commits n

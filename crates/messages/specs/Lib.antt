@@ -3,5 +3,6 @@ pub mod Take
 pub mod Received
 pub mod Letters
 pub mod Compose
-pub mod LetterRuns
+pub mod Runs
+pub mod TreeFile
 pub mod Laws

@@ -1,6 +1,6 @@
 // A handset takes a message from its bytes: all of them are read before anything is judged.
-ghost use Rattle.messages.specs.LetterRuns.{LetterRuns};
 ghost use Rattle.messages.specs.Received.{TakesBytes};
+ghost use Rattle.messages.specs.Runs.{RunsOfLetters};
 
 use crate::handset::{Handset, take_message};
 use crate::message::CommitMessage;
@@ -16,7 +16,7 @@ pub fn take<'a>(
     bytes: &'a [u8],
 ) -> Result<CommitMessage<'a>, CommitError>
     ensures tree { TakesBytes handset.old bytes.now handset.new result }
-    ensures runs { LetterRuns }
+    ensures runs { RunsOfLetters }
 {
     let Ok(message) = read_message(bytes) else {
         return Err(CommitError::Refused(Refusal::Malformed));

@@ -1,7 +1,7 @@
 -- No two lines are alike.
 use Rattle.std.proofs.Common.{◌≡◌, ℕ, ◌+◌, ◌^◌, ◌<◌, List, [], ◌∷◌, ◌++◌, map, length, All, sym, refl, ap, ◌∙◌, subst, ap₂, append_assoc, arith}
 use Rattle.std.proofs.lemmas.Fmt.{decimal_nonempty, decimal_injective}
-use Rattle.std.proofs.lemmas.List.Elements.{All-append, All-weaker}
+use Rattle.std.proofs.lemmas.List.Elements.{All-nil, All-cons, All-head, All-tail, All-append, All-map, All-weaker}
 use Rattle.std.proofs.lemmas.List.{length-append, append_cancel_right}
 use Rattle.theory.specs.Worked.{Cell, blank, seat, star, cells}
 use Rattle.scripts.proofs.Decimals.{all-decimal}
@@ -26,8 +26,8 @@ module _ (b : ℕ) where
   ended_same [] (v ∷ vs) lu lv e = absurd (omega (arith, ap length e, length-append v (b ∷ ended_by vs)))
   ended_same (u ∷ us) [] lu lv e = absurd (omega (arith, ap length e, length-append u (b ∷ ended_by us)))
   ended_same (u ∷ us) (v ∷ vs) lu lv e =
-      let parts = same-cut b u (ended_by us) v (ended_by vs) lu.0 lv.0 e in
-      ap₂ (λ w ws. w ∷ ws) parts.0 (ended_same us vs lu.1 lv.1 parts.1)
+      let parts = same-cut b u (ended_by us) v (ended_by vs) (All-head (Lacks b) u us lu) (All-head (Lacks b) v vs lv) e in
+      ap₂ (λ w ws. w ∷ ws) parts.0 (ended_same us vs (All-tail (Lacks b) u us lu) (All-tail (Lacks b) v vs lv) parts.1)
 
   -- words without the byte are told by what they make
   led-same : (us vs : List (List ℕ)) → All (Lacks b) us → All (Lacks b) vs → led_by b us ≡ led_by b vs → us ≡ vs
@@ -45,11 +45,11 @@ map_same f P one (x ∷ xs) [] px py e = absurd (omega (arith, ap length e))
 map_same f P one (x ∷ xs) (y ∷ ys) px py e =
     let heads : f x ≡ f y = cc in
     let tails : map f xs ≡ map f ys = cc in
-    ap₂ (λ z zs. z ∷ zs) (one x y px.0 py.0 heads) (map_same f P one xs ys px.1 py.1 tails)
+    ap₂ (λ z zs. z ∷ zs) (one x y (All-head P x xs px) (All-head P y ys py) heads)
+    (map_same f P one xs ys (All-tail P x xs px) (All-tail P y ys py) tails)
 
 map-all : {A B : Type 0} (f : A → B) (P : A → Type 0) (Q : B → Type 0) → ((x : A) → P x → Q (f x)) → (xs : List A) → All P xs → All Q (map f xs)
-map-all f P Q one [] p = tt
-map-all f P Q one (x ∷ xs) p = (one x p.0, map-all f P Q one xs p.1)
+map-all f P Q one xs p = All-map Q f xs (All-weaker P (λ x. Q (f x)) one xs p)
 
 abbrev Small : ℕ → Type 0
 Small m = m < 65536
@@ -72,13 +72,13 @@ members-some m ms s e = omega (arith, ap length e, length-append (decimal m) (be
 
 members-same : (ms ns : List ℕ) → All Small ms → All Small ns → members_bytes ms ≡ members_bytes ns → ms ≡ ns
 members-same [] [] sm sn e = refl
-members-same [] (n ∷ ns) sm sn e = absurd (members-some n ns sn.0 (sym e))
-members-same (m ∷ ms) [] sm sn e = absurd (members-some m ms sm.0 e)
+members-same [] (n ∷ ns) sm sn e = absurd (members-some n ns (All-head Small n ns sn) (sym e))
+members-same (m ∷ ms) [] sm sn e = absurd (members-some m ms (All-head Small m ms sm) e)
 members-same (m ∷ ms) (n ∷ ns) sm sn e = numbers-same (m ∷ ms) (n ∷ ns) sm sn (ap (λ l. 44 ∷ l) e)
 
 -- no number's text begins with another byte
 digit-first : (m b : ℕ) (bs : List ℕ) → Small m → decimal m ≡ b ∷ bs → Digit b
-digit-first m b bs s e = (subst (All Digit) e (all-decimal m (omega arith))).0
+digit-first m b bs s e = All-head Digit b bs (subst (All Digit) e (all-decimal m (omega arith)))
 
 cell_same : (c d : Cell) → CellInRange c → CellInRange d → cell_bytes c ≡ cell_bytes d → c ≡ d
 cell_same blank blank sc sd e = refl
@@ -92,17 +92,20 @@ cell_same (star un) (seat n) sc sd e = absurd (omega (arith, digit-first n 42 (m
 cell_same (star un) (star vn) sc sd e = let rest : members_bytes un ≡ members_bytes vn = cc in ap star (members-same un vn sc sd rest)
 
 behind-lacks : (ms : List ℕ) → All Small ms → Lacks 32 (behind_bytes ms)
-behind-lacks [] s = tt
-behind-lacks (m ∷ ms) s = (λ e. omega arith, All-append (λ c. c ≡ 32 → ⊥) (decimal m) (behind_bytes ms) (decimal-lacks 32 m space-no-digit s.0) (behind-lacks ms s.1))
+behind-lacks [] s = All-nil (λ c. c ≡ 32 → ⊥)
+behind-lacks (m ∷ ms) s =
+    All-cons (λ c. c ≡ 32 → ⊥) 44 (decimal m ++ behind_bytes ms) (λ e. omega arith)
+    (All-append (λ c. c ≡ 32 → ⊥) (decimal m) (behind_bytes ms) (decimal-lacks 32 m space-no-digit (All-head Small m ms s)) (behind-lacks ms (All-tail Small m ms s)))
 
 members-lack : (ms : List ℕ) → All Small ms → Lacks 32 (members_bytes ms)
-members-lack [] s = tt
-members-lack (m ∷ ms) s = All-append (λ c. c ≡ 32 → ⊥) (decimal m) (behind_bytes ms) (decimal-lacks 32 m space-no-digit s.0) (behind-lacks ms s.1)
+members-lack [] s = All-nil (λ c. c ≡ 32 → ⊥)
+members-lack (m ∷ ms) s =
+    All-append (λ c. c ≡ 32 → ⊥) (decimal m) (behind_bytes ms) (decimal-lacks 32 m space-no-digit (All-head Small m ms s)) (behind-lacks ms (All-tail Small m ms s))
 
 cell-lacks : (c : Cell) → CellInRange c → Lacks 32 (cell_bytes c)
-cell-lacks blank s = (λ e. omega arith, tt)
+cell-lacks blank s = All-cons (λ c. c ≡ 32 → ⊥) 46 [] (λ e. omega arith) (All-nil (λ c. c ≡ 32 → ⊥))
 cell-lacks (seat m) s = decimal-lacks 32 m space-no-digit s
-cell-lacks (star un) s = (λ e. omega arith, members-lack un s)
+cell-lacks (star un) s = All-cons (λ c. c ≡ 32 → ⊥) 42 (members_bytes un) (λ e. omega arith) (members-lack un s)
 
 cells-lack : (cs : List Cell) → All CellInRange cs → All (Lacks 32) (map cell_bytes cs)
 cells-lack cs s = map-all cell_bytes CellInRange (Lacks 32) cell-lacks cs s
@@ -128,7 +131,13 @@ line-led r =
 
 words-lack : (r : Report) → InRange r → All (Lacks 32) (words_of r)
 unfolding words_of
-words-lack r h = (wide-lacks r.epoch h.epoch, (wide-lacks r.boxes h.boxes, (wide-lacks r.keys h.keys, cells-lack (cells r.tree) h.nodes)))
+words-lack r h =
+    let nodes : List (List ℕ) = map cell_bytes (cells r.tree) in
+    let keys : All (Lacks 32) (decimal r.keys ∷ nodes) =
+        All-cons (Lacks 32) (decimal r.keys) nodes (wide-lacks r.keys h.keys) (cells-lack (cells r.tree) h.nodes) in
+    let boxes : All (Lacks 32) (decimal r.boxes ∷ decimal r.keys ∷ nodes) =
+        All-cons (Lacks 32) (decimal r.boxes) (decimal r.keys ∷ nodes) (wide-lacks r.boxes h.boxes) keys in
+    All-cons (Lacks 32) (decimal r.epoch) (decimal r.boxes ∷ decimal r.keys ∷ nodes) (wide-lacks r.epoch h.epoch) boxes
 
 words_same : (r s : Report) → InRange r → InRange s → words_of r ≡ words_of s → Same r s
 unfolding words_of

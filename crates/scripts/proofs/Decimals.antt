@@ -1,10 +1,10 @@
 -- Decimal text: the number that digits write, and what stands in a number's text.
 use Rattle.std.proofs.Common.{◌≡◌, ℕ, ◌+◌, ◌-◌, ◌*◌, ◌/◌, ◌%◌, ◌^◌, ◌<◌, ◌≤◌, List, [], ◌∷◌, ◌++◌, length, get_or, take, drop, set, All, sym, refl, ap, ◌∙◌, subst, ap₂, inl, inr, arith, rules}
 use Rattle.std.proofs.lemmas.Bool.{cases_lt}
-use Rattle.std.proofs.lemmas.Str.Parse.{IsNumeralModel, numerals_by_fold}
+use Rattle.std.proofs.lemmas.Str.Parse.{IsDigitsTest, IsNumeralModel, numerals_by_fold}
 use Rattle.std.proofs.lemmas.Fmt.{digits_decimal, digits_value-decimal, decimal-digits_value, first_decimal, decimal_nonempty, decimal_digit, decimal_step, length-decimal-le}
 use Rattle.std.proofs.lemmas.List.{at_drop_more, at_drop_all, take_all, drop_all, append-nil, append_assoc, drop-set, length-set, length-drop, length_push}
-use Rattle.std.proofs.lemmas.List.Elements.{All-get_or, All-more}
+use Rattle.std.proofs.lemmas.List.Elements.{All-nil, All-cons, All-head, All-tail, All-get_or, All-more}
 use Rattle.scripts.specs.Decimal.{decimal, Digit}
 
 -- the number that n's digits and then ds write
@@ -12,8 +12,16 @@ abbrev pub read_on : ℕ → List ℕ → ℕ
 read_on n [] = n
 read_on n (b ∷ bs) = read_on (n * 10 + (b - 48)) bs
 
+-- it is asked of each byte whether it is a digit
+digits-test : IsDigitsTest (All Digit)
+digits-test = record {
+  empty = All-nil Digit;
+  parts = λ c cs all. (All-head Digit c cs all, All-tail Digit c cs all);
+  more = λ c cs digit all. All-cons Digit c cs digit all;
+}
+
 pub own : IsNumeralModel (All Digit) (read_on 0)
-own = numerals_by_fold _ (search rules) read_on (search rules)
+own = numerals_by_fold _ digits-test read_on (search rules)
 
 -- more digits make no smaller number
 pub read_on-ge : (n : ℕ) (bs : List ℕ) → n ≤ read_on n bs
@@ -35,7 +43,7 @@ pub record Read (text : List ℕ) (i number : ℕ) : Type 0 where
   pub small : number < 65536
 
 pub read_none : (text : List ℕ) → Read text 0 0
-read_none text = record { digits = tt; whole = refl; small = omega arith }
+read_none text = record { digits = All-nil Digit; whole = refl; small = omega arith }
 
 module _ (text : List ℕ) (i number : ℕ) (lt : i < length text) (r : Read text i number) where
   stepped : read_on (number * 10 + (get_or text i 0 - 48)) (drop (i + 1) text) ≡ read_on 0 text

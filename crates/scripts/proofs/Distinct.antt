@@ -1,7 +1,7 @@
 -- No two lines are alike, and none holds a newline.
 use Rattle.std.proofs.Common.{◌≡◌, ℕ, ◌<◌, List, [], ◌∷◌, ◌++◌, length, Some, None, codes, All, Option, sym, refl, ap, ◌∙◌, subst, arith}
 use Rattle.std.proofs.lemmas.Fmt.{decimal_injective}
-use Rattle.std.proofs.lemmas.List.Elements.{All-append}
+use Rattle.std.proofs.lemmas.List.Elements.{All-head, All-cons, All-append}
 use Rattle.commits.specs.declared.change.Change.{Change}
 use Rattle.commits.specs.declared.change.Change.TheVariants.{Renew, Remove, Add}
 use Rattle.commits.specs.declared.change.Commit.{Commit}
@@ -54,9 +54,9 @@ lines-differ a b fa fb e =
 
 -- a line begins with a letter
 letter-first : (m : ℕ) (change : Change) → All Digit (spaced (words_of m change)) → ⊥
-letter-first m Renew all = omega (arith, all.0)
-letter-first m (Remove other) all = omega (arith, all.0)
-letter-first m (Add other) all = omega (arith, all.0)
+letter-first m Renew all = omega (arith, All-head Digit 114 (codes "enew" ++ 32 ∷ decimal m) all)
+letter-first m (Remove other) all = omega (arith, All-head Digit 114 (codes "emove" ++ 32 ∷ spaced (decimal m ∷ decimal other.0 ∷ [])) all)
+letter-first m (Add other) all = omega (arith, All-head Digit 97 (codes "dd" ++ 32 ∷ spaced (decimal m ∷ decimal other.0 ∷ [])) all)
 
 pub no-line-is-a-founder : NoLineIsAFounder
 no-line-is-a-founder c m small e = letter-first c.committer.0 c.change (subst (All Digit) (sym e) (all-decimal m.0 (omega arith)))
@@ -77,7 +77,7 @@ newline-no-digit d = omega arith
 
 -- words without a newline make a line without one
 spaced-lacks : (word more : List ℕ) → Lacks 10 word → Lacks 10 more → Lacks 10 (word ++ 32 ∷ more)
-spaced-lacks word more lw lm = All-append (λ c. c ≡ 10 → ⊥) word (32 ∷ more) lw (λ e. omega arith, lm)
+spaced-lacks word more lw lm = All-append (λ c. c ≡ 10 → ⊥) word (32 ∷ more) lw (All-cons (λ c. c ≡ 10 → ⊥) 32 more (λ e. omega arith) lm)
 
 line-lacks : (m : ℕ) (change : Change) → m < 65536 → ChangeInRange change → Lacks 10 (spaced (words_of m change))
 line-lacks m Renew small fits = spaced-lacks (codes "renew") (decimal m) (lacks-by 10 (codes "renew") refl) (decimal-lacks 10 m newline-no-digit small)

@@ -1,10 +1,11 @@
 -- The words of a line: where it is cut, and which lines there are.
 use Rattle.std.proofs.Common.{◌≡◌, ℕ, ◌<◌, Bool, true, not, ◌&&◌, eqb, List, [], ◌∷◌, ◌++◌, length, codes, sym, refl, ap, ◌∙◌, subst, arith}
-use Rattle.std.proofs.lemmas.List.Elements.{All-weaker}
+use Rattle.std.proofs.lemmas.List.Elements.{All-nil, All-cons, All-weaker}
 use Rattle.std.proofs.lemmas.Bool.{and_parts, not-true, eqb-false}
 use Rattle.commits.specs.declared.change.Change.{Change}
 use Rattle.commits.specs.declared.change.Change.TheVariants.{Renew, Remove, Add}
 use Rattle.commits.specs.declared.change.Commit.{Commit}
+use Rattle.scripts.proofs.Cuts.{lacks-head, lacks-tail}
 use Rattle.scripts.proofs.Decimals.{all-decimal}
 use Rattle.scripts.specs.Decimal.{decimal, Digit}
 use Rattle.scripts.specs.Line.{spaced, words_of, line_bytes, InRange, ChangeInRange}
@@ -12,18 +13,18 @@ use Rattle.scripts.specs.Lines.{Lacks}
 
 -- a byte that stands in a text is not lacked there
 pub lacks-none : (b : ℕ) (front back : List ℕ) → Lacks b (front ++ b ∷ back) → ⊥
-lacks-none b [] back lacks = lacks.0 refl
-lacks-none b (c ∷ front) back lacks = lacks-none b front back lacks.1
+lacks-none b [] back lacks = lacks-head b b back lacks refl
+lacks-none b (c ∷ front) back lacks = lacks-none b front back (lacks-tail b c (front ++ b ∷ back) lacks)
 
 -- a text is cut at its first b in one way
 pub same-cut : (b : ℕ) (u v x y : List ℕ) → Lacks b u → Lacks b x → u ++ b ∷ v ≡ x ++ b ∷ y → (u ≡ x) × (v ≡ y)
 same-cut b [] v [] y lu lx e = (refl, cc)
-same-cut b [] v (c ∷ x) y lu lx e = absurd (lx.0 (let h : c ≡ b = cc in h))
-same-cut b (c ∷ u) v [] y lu lx e = absurd (lu.0 (let h : c ≡ b = cc in h))
+same-cut b [] v (c ∷ x) y lu lx e = absurd (lacks-head b c x lx (let h : c ≡ b = cc in h))
+same-cut b (c ∷ u) v [] y lu lx e = absurd (lacks-head b c u lu (let h : c ≡ b = cc in h))
 same-cut b (c ∷ u) v (d ∷ x) y lu lx e =
     let heads : c ≡ d = cc in
     let tails : u ++ b ∷ v ≡ x ++ b ∷ y = cc in
-    let rest = same-cut b u v x y lu.1 lx.1 tails in
+    let rest = same-cut b u v x y (lacks-tail b c u lu) (lacks-tail b d x lx) tails in
     let whole : c ∷ u ≡ d ∷ x = cc rest.0 in
     (whole, rest.1)
 
@@ -57,10 +58,10 @@ lacking b [] = true
 lacking b (c ∷ cs) = not (eqb c b) && lacking b cs
 
 pub lacks-by : (b : ℕ) (cs : List ℕ) → lacking b cs ≡ true → Lacks b cs
-lacks-by b [] e = tt
+lacks-by b [] e = All-nil (λ x. x ≡ b → ⊥)
 lacks-by b (c ∷ cs) e =
     let both = and_parts (not (eqb c b)) (lacking b cs) e in
-    (eqb-false c b (not-true (eqb c b) both.0), lacks-by b cs both.1)
+    All-cons (λ x. x ≡ b → ⊥) c cs (eqb-false c b (not-true (eqb c b) both.0)) (lacks-by b cs both.1)
 
 pub verb-lacks : (change : Change) → Lacks 32 (verb change)
 verb-lacks Renew = lacks-by 32 (codes "renew") refl

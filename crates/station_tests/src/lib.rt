@@ -64,7 +64,7 @@ mod tests {
         ends(&rt, heap, &script, b"\n4095 0 0 0\n")?;
         script.extend_from_slice(b"renew 0\n")?;
         let output = play(heap, &script)?;
-        assert!(rt; output.as_slice() == b"1\n");
+        assert!(rt; output.as_slice() == b"1\n".as_slice());
         Ok(())
     }
 

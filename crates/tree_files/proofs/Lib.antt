@@ -1,7 +1,4 @@
 mod Members
-mod Nodes
-mod Growing
-mod Filing
 mod Judging
 mod Verdicts
 mod Writing

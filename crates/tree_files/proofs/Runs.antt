@@ -1,23 +1,22 @@
 -- The tree of every run fits its file.
 -- Assumes nothing.
-use Rattle.std.proofs.Common.{◌≡◌, ℕ, zero, suc, ◌+◌, ◌*◌, ◌^◌, ◌<◌, ◌≤◌, Bool, cond, ◌||◌, T, eqb, List, [], ◌∷◌, length, sym, refl, ap, ◌∙◌, subst, arith, pow_mono}
+use Rattle.std.proofs.Common.{ℕ, zero, suc, ◌^◌, ◌<◌, ◌≤◌, Bool, cond, T, eqb, List, [], ◌∷◌, sym, subst, arith, pow_mono}
 use lib.Dec.{eqb_refl}
 use Rattle.theory.specs.Group.{Commit, Group, group, committed, allowed}
 use Rattle.theory.specs.Held.{is_unmerged}
 use Rattle.theory.specs.Limits.{max_depth, nobody, last_epoch}
 use Rattle.theory.specs.Natural.{map_tree, map_leaf, map_parent}
 use Rattle.theory.specs.Secrets.{Secret}
-use Rattle.theory.specs.Tree.{Tree, leaf, node, Leaf, blank_leaf, occupied, Parent, blank_parent, keyed, is_at, is_blank, seated, members, height}
-use Rattle.theory.specs.Wellformed.{well_formed}
+use Rattle.theory.specs.Tree.{Tree, node, Leaf, blank_leaf, occupied, Parent, blank_parent, keyed, is_at, is_blank, seated, members}
 use Rattle.theory.proofs.Counting.{named-few}
 use Rattle.theory.proofs.Level.{Level, level-height, run-bounded}
 use Rattle.theory.proofs.Level as level
 use Rattle.theory.proofs.Natural.{well_formed-map}
 use Rattle.theory.proofs.Tests.{by_cond, or_left, or_right}
-use Rattle.theory.proofs.Wellformed.{Sound, at_leaf, at_node, ParentSound, Numbered, permitted, run_sound, run-numbered, well-formed-kept}
+use Rattle.theory.proofs.Wellformed.{Sound, at_node, ParentSound, Numbered, permitted, run_sound, run-numbered, well-formed-kept}
 use Rattle.ratchet_tree.specs.declared.member.PublicKey.{PublicKey}
 use Rattle.wire.specs.Bytes.{Half}
-use Rattle.tree_files.specs.TreeFile.{FitsLeaf, FitsMembers, FitsParent, FitsPart}
+use Rattle.messages.specs.TreeFile.{FitsLeaf, FitsMembers, FitsParent, FitsPart}
 use Rattle.tree_files.specs.Verdict.{Fits}
 use Rattle.tree_files.specs.Laws.{RunsFiled, run_file}
 use Rattle.tree_files.proofs.Verdicts.{kept}

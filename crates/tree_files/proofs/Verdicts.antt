@@ -6,16 +6,13 @@ use Rattle.theory.specs.Tree.{Tree}
 use Rattle.theory.specs.Wellformed.{well_formed}
 use Rattle.theory.proofs.Tests.{decided, is_true, is_false}
 use Rattle.ratchet_tree.specs.declared.member.PublicKey.{PublicKey}
-use Rattle.ratchet_tree.specs.declared.tree.RatchetTree.{RatchetTree}
-use Rattle.commits.specs.declared.change.Epoch.{Epoch}
-use Rattle.tree_files.specs.Verdict.{File, Fits, bytes_of, file_of, Written, IsFile, file_refusal, Loaded}
+use Rattle.tree_files.specs.Verdict.{File, Fits, bytes_of, file_of, Written, IsFile, file_refusal}
 use Rattle.tree_files.specs.Write.{Filed}
-use Rattle.tree_files.specs.Laws.{FileVerdict, FilePrecedence, ReadBack, FileRoundTrip, Kept}
-use Rattle.tree_files.specs.declared.tree_file.FileError.{FileError}
+use Rattle.tree_files.specs.Laws.{FilePrecedence, FileRoundTrip, Kept}
 use Rattle.tree_files.specs.declared.tree_file.FileError.TheVariants as file-error
 use Rattle.tree_files.specs.declared.tree_file.WriteError.{WriteError}
 use Rattle.tree_files.specs.declared.tree_file.WriteError.TheVariants as write-error
-use Rattle.tree_files.proofs.Filing.{one-tree}
+use Rattle.messages.proofs.Filing.{one-tree}
 
 pub breaks-a-rule : (f : File) → well_formed f.tree ≡ false → file_refusal (Some f) ≡ Some 8
 breaks-a-rule f h = ap (λ (b : Bool). first_of (not b) 8 None) h

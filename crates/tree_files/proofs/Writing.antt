@@ -1,6 +1,6 @@
 -- Nodes appended one after the other, and whether they can be.
 -- Assumes nothing.
-use Rattle.std.proofs.Common.{◌≡◌, ℕ, zero, suc, ◌<◌, ◌≤◌, Bool, true, false, ◌&&◌, ltb, List, [], ◌∷◌, ◌++◌, length, is_ok, Result, sym, refl, ap, ◌∙◌, subst, ap₂, arith}
+use Rattle.std.proofs.Common.{◌≡◌, ℕ, zero, suc, ◌<◌, ◌≤◌, Bool, true, false, ◌&&◌, ltb, List, [], ◌∷◌, ◌++◌, length, Result, sym, refl, ap, ◌∙◌, subst, ap₂, arith}
 use Rattle.std.proofs.lemmas.List.{length-map}
 use Rattle.std.proofs.lemmas.Bool.{and_parts, ltb-true, lt-ltb, both_ways}
 use Rattle.theory.specs.Limits.{max_depth}
@@ -13,7 +13,7 @@ use Rattle.ratchet_tree.specs.declared.node.Node.{Node}
 use Rattle.ratchet_tree.proofs.Appending.{appends-as, appends-two}
 use Rattle.ratchet_tree.proofs.Counts.{height-is}
 use Rattle.wire.specs.Bytes.{be16, key_bytes, Half}
-use Rattle.tree_files.specs.TreeFile.{leaf_bytes, parent_bytes, members_bytes, nodes_bytes, file_head, encode_tree, FitsLeaf, FitsParent, FitsMembers, FitsPart, FitsTree}
+use Rattle.messages.specs.TreeFile.{leaf_bytes, parent_bytes, members_bytes, nodes_bytes, file_head, encode_tree, FitsLeaf, FitsParent, FitsMembers, FitsPart, FitsTree}
 use Rattle.tree_files.specs.Write.{countable_at, countable}
 
 numbers-length : (ms : List MemberId) → length (numbers ms) ≡ length ms

@@ -1,33 +1,24 @@
 -- Laws of tree files.
--- `OneTree`: some bytes are those of one tree at most; `NoMessageIsATree`: and of no message then;
 -- `FilePrecedence`, by `FileVerdict`: what each verdict says of the bytes; `FileRoundTrip`, by `ReadBack`: whoever reads what was written gets it back;
 -- `RunsFiled`, by `run_file` and `Kept`: the tree of every run is written and read back.
 -- Assumes nothing.
-use Rattle.std.specs.Prelude.{◌≡◌, ℕ, ◌<◌, not, T, ◌⊎◌, ◌↔◌, List, ◌++◌, Some, None, Ok, Err, Option, Result, ◌≢◌}
+use Rattle.std.specs.Prelude.{◌≡◌, ℕ, ◌<◌, not, T, ◌⊎◌, ◌↔◌, List, ◌++◌, Some, None, Ok, Err, Option, Result}
 use Rattle.theory.specs.Group.{Commit, group}
 use Rattle.theory.specs.Limits.{nobody}
 use Rattle.theory.specs.Natural.{map_tree}
 use Rattle.theory.specs.Secrets.{Secret}
-use Rattle.theory.specs.Tree.{Tree, height}
+use Rattle.theory.specs.Tree.{height}
 use Rattle.theory.specs.Wellformed.{well_formed}
 use Rattle.ratchet_tree.specs.declared.member.PublicKey.{PublicKey}
 use Rattle.ratchet_tree.specs.declared.tree.RatchetTree.{RatchetTree}
 use Rattle.commits.specs.declared.change.Epoch.{Epoch}
 use Rattle.wire.specs.Bytes.{Half}
-use Rattle.messages.specs.Message.{Message, encode}
-use Rattle.tree_files.specs.TreeFile.{FitsTree, encode_tree}
 use Rattle.tree_files.specs.Verdict.{File, Fits, bytes_of, file_of, Written, IsFile, file_refusal, Loaded}
 use Rattle.tree_files.specs.Write.{Filed}
 use Rattle.tree_files.specs.declared.tree_file.FileError.{FileError}
 use Rattle.tree_files.specs.declared.tree_file.FileError.TheVariants as file-error
 use Rattle.tree_files.specs.declared.tree_file.WriteError.{WriteError}
 use Rattle.tree_files.specs.declared.tree_file.WriteError.TheVariants as write-error
-
-abbrev pub OneTree : Type 0
-OneTree = (e d e' d' : ℕ) (t u : Tree PublicKey) → FitsTree e d t → FitsTree e' d' u → encode_tree e d t ≡ encode_tree e' d' u → (e ≡ e') × (d ≡ d') × (t ≡ u)
-
-abbrev pub NoMessageIsATree : Type 0
-NoMessageIsATree = (m : Message) (e d : ℕ) (t : Tree PublicKey) → encode m ≢ encode_tree e d t
 
 -- what a verdict says of the bytes
 pub record FileVerdict (b : List ℕ) (v : Option ℕ) : Type 0 where

@@ -1,4 +1,3 @@
-pub mod TreeFile
 pub mod Verdict
 pub mod Write
 pub mod Laws

@@ -12,7 +12,7 @@ use Rattle.ratchet_tree.specs.declared.member.PublicKey.{PublicKey}
 use Rattle.ratchet_tree.specs.declared.tree.RatchetTree.{RatchetTree}
 use Rattle.commits.specs.Refusals.{number_of}
 use Rattle.commits.specs.declared.change.Epoch.{Epoch}
-use Rattle.tree_files.specs.TreeFile.{FitsTree, encode_tree}
+use Rattle.messages.specs.TreeFile.{FitsTree, encode_tree}
 use Rattle.tree_files.specs.declared.tree_file.FileError.{FileError}
 use Rattle.tree_files.specs.declared.tree_file.FileError.TheVariants.{Refused, OutOfMemory}
 

@@ -1,17 +1,5 @@
 // Laws of tree files, each asked for by the function that names it.
-ghost use Rattle.tree_files.specs.Laws.{FilePrecedence, FileRoundTrip, NoMessageIsATree, OneTree, RunsFiled};
-
-pub fn one_tree_holds() -> u8
-    ensures law { OneTree }
-{
-    0
-}
-
-pub fn no_message_is_a_tree_holds() -> u8
-    ensures law { NoMessageIsATree }
-{
-    0
-}
+ghost use Rattle.tree_files.specs.Laws.{FilePrecedence, FileRoundTrip, RunsFiled};
 
 // Bytes of no tree are refused by 1, a tree that breaks a rule by 8, and no other.
 pub fn file_precedence_holds() -> u8

@@ -2,9 +2,9 @@
 ghost use Rattle.tree_files.specs.Verdict.{Loaded};
 
 use crate::judge::is_well_formed;
-use crate::parse::parse_tree;
-use crate::tree_file::{FileError, ParseError};
+use crate::tree_file::FileError;
 use commits::{Epoch, Refusal};
+use messages::{FileError as ParseError, parse_tree};
 use ratchet_tree::RatchetTree;
 use std::alloc::Global;
 

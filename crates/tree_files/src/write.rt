@@ -6,12 +6,13 @@ ghost use Rattle.ratchet_tree.specs.Keys.{Appends};
 ghost use Rattle.ratchet_tree.specs.Nodes.{leaf_of, numbers, parent_of};
 ghost use Rattle.ratchet_tree.specs.Parts.{part_tree};
 ghost use Rattle.ratchet_tree.specs.Trees.{the_tree};
-ghost use Rattle.tree_files.specs.TreeFile.{FitsFile, FitsLeaf, FitsMembers, FitsParent, FitsPart, FitsTree, encode_tree, file_head_bytes, leaf_bytes, members_bytes, nodes_bytes, parent_bytes};
+ghost use Rattle.messages.specs.TreeFile.{FitsFile, FitsLeaf, FitsMembers, FitsParent, FitsPart, FitsTree, encode_tree, file_head_bytes, leaf_bytes, members_bytes, nodes_bytes, parent_bytes};
 ghost use Rattle.tree_files.specs.Verdict.{file_of};
 ghost use Rattle.tree_files.specs.Write.{Filed, countable, countable_at};
 
-use crate::tree_file::{FileHeader, WriteError};
+use crate::tree_file::WriteError;
 use commits::Epoch;
+use messages::FileHeader;
 use ratchet_tree::{Keyed, Leaf, MemberId, Node, Part, PublicKey, RatchetTree, Split};
 use std::alloc::AllocError;
 use wire::{write_key, write_u16};

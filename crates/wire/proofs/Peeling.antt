@@ -1,6 +1,6 @@
 -- Numbers, keys and runs have one reading: equal bytes that begin with such a part begin with the same one, and go on alike.
 -- Assumes nothing.
-use Rattle.std.proofs.Common.{◌≡◌, ℕ, zero, suc, ◌+◌, ◌-◌, ◌*◌, ◌/◌, ◌%◌, ◌<◌, ◌≤◌, Bool, true, false, eqb, List, [], ◌∷◌, ◌++◌, length, take, drop, Some, None, Option, sym, refl, ap, ◌∙◌, ap₂, true≢false, append_assoc, arith, Bor, MatchOption}
+use Rattle.std.proofs.Common.{◌≡◌, ℕ, ◌+◌, ◌*◌, ◌/◌, ◌%◌, ◌<◌, ◌≤◌, Bool, true, false, eqb, List, [], ◌∷◌, ◌++◌, length, take, drop, Some, None, Option, sym, refl, ap, ◌∙◌, ap₂, true≢false, append_assoc, arith, Bor, MatchOption}
 use Rattle.std.proofs.lemmas.Bool.{ne_eqb}
 use Rattle.ratchet_tree.specs.declared.member.PublicKey.{PublicKey}
 use Rattle.wire.specs.Bytes.{be16, be32, key_bytes, Half, ReadsAs, Whole}

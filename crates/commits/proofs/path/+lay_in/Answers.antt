@@ -24,13 +24,13 @@ returns-then-height-eq0 t c =
     }
 
 pub invariant_of-left : goal.invariant_of-left
-invariant_of-left t c = (left-span c.args.height c.args.nodes.now c.if-height-eq0.false c.requires.0 c.left_half.ensures.value, (omega arith, tt))
+invariant_of-left t c = record { whole = left-span c.args.height c.args.nodes.now c.if-height-eq0.false c.requires.0 c.left_half.ensures.value; shallow = omega arith }
 
 pub invariant_of-right : goal.invariant_of-right
-invariant_of-right t c = (right-span c.args.height c.args.nodes.now c.if-height-eq0.false c.requires.0 c.right_half.ensures.value, (omega arith, tt))
+invariant_of-right t c = record { whole = right-span c.args.height c.args.nodes.now c.if-height-eq0.false c.requires.0 c.right_half.ensures.value; shallow = omega arith }
 
 pub invariant_of-right-2 : goal.invariant_of-right-2
-invariant_of-right-2 t c = (right-span c.args.height c.args.nodes.now c.if-height-eq0.false c.requires.0 c.right_half.ensures.value, (omega arith, tt))
+invariant_of-right-2 t c = record { whole = right-span c.args.height c.args.nodes.now c.if-height-eq0.false c.requires.0 c.right_half.ensures.value; shallow = omega arith }
 
 pub bounds-nodes-middle : goal.bounds-nodes-middle
 bounds-nodes-middle t c =

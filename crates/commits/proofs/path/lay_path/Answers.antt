@@ -9,10 +9,10 @@ pub returns : goal.returns
 returns c =
     record {
       tree =
-          ap (tree_of c.args.tree.now.depth) (with_items_is c.args.tree.now.nodes c.lay_in.new.nodes (c.lay_in.auto.nodes ∙ c.deref-mut.ensures.len))
+          ap (tree_of c.args.tree.now.depth) (with_items_is c.args.tree.now.nodes c.lay_in.new.nodes (c.lay_in.auto.nodes ∙ c.deref_mut.ensures.len))
           ∙ c.lay_in.ensures.tree
-          ∙ ap (λ l. (laid c.args.committer.0 c.args.keys.leaf (key_from c.args.keys) (tree_of c.args.tree.now.depth l)).tree) c.deref-mut.ensures.value;
+          ∙ ap (λ l. (laid c.args.committer.0 c.args.keys.leaf (key_from c.args.keys) (tree_of c.args.tree.now.depth l)).tree) c.deref_mut.ensures.value;
       value =
           c.lay_in.ensures.value
-          ∙ ap (λ l. (laid c.args.committer.0 c.args.keys.leaf (key_from c.args.keys) (tree_of c.args.tree.now.depth l)).levels) c.deref-mut.ensures.value;
+          ∙ ap (λ l. (laid c.args.committer.0 c.args.keys.leaf (key_from c.args.keys) (tree_of c.args.tree.now.depth l)).levels) c.deref_mut.ensures.value;
     }

@@ -1,4 +1,4 @@
-use Rattle.std.proofs.Common.{◌≡◌, ℕ, List, ◌++◌, sym, refl, ap, ◌∙◌, append_assoc}
+use Rattle.std.proofs.Common.{ℕ, List, ◌++◌, sym, refl, ap, ◌∙◌, append_assoc}
 use Rattle.wire.specs.Bytes.{key_bytes}
 use Rattle.wire.proofs.Peeling.{peel-key}
 use Rattle.messages.proofs.Peeling.{add-keys}

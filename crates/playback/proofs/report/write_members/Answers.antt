@@ -7,12 +7,12 @@ use Rattle.playback.specs.Report.{behind_bytes, members_bytes}
 use Rattle.playback.proofs.Writing.{appended}
 use Rattle.playback.proofs.report.write_members.Goals as goal
 
-pub returns-in_ok-write_number : goal.returns-in_ok-write_number
-returns-in_ok-write_number c =
+pub returns-in_ok-write_number-in-Some : goal.returns-in_ok-write_number-in-Some
+returns-in_ok-write_number-in-Some c =
     let is : c.from.result ≡ c.in-Some.first.now.0 = search rules in
     appends-as
     (ap (λ (n : ℕ). decimal n ++ behind_bytes (numbers c.in-Some.others.now)) is ∙ ap (λ l. members_bytes (numbers l)) (sym c.in-Some.ensures.cases.0))
-    (appends-two (vec_items c.args.out.now) (decimal c.from.result) c.in_ok-write_number.ensures.items c.write_others.ensures)
+    (appends-two (vec_items c.args.out.now) (decimal c.from.result) c.in_ok-write_number-in-Some.ensures.items c.write_others.ensures)
 
 pub returns-in-None : goal.returns-in-None
 returns-in-None c =

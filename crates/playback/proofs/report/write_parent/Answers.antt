@@ -4,7 +4,7 @@ use Rattle.ratchet_tree.proofs.Appending.{appends-as, appends-two}
 use Rattle.playback.specs.Report.{cell_bytes}
 use Rattle.playback.proofs.report.write_parent.Goals as goal
 
-pub returns-in_ok-extend_from_slice : goal.returns-in_ok-extend_from_slice
-returns-in_ok-extend_from_slice c =
+pub returns-in_ok-extend_from_slice-in-Some : goal.returns-in_ok-extend_from_slice-in-Some
+returns-in_ok-extend_from_slice-in-Some c =
     appends-as (ap (λ p. 32 ∷ cell_bytes (parent_cell p)) (sym c.in-Some.ensures))
-    (appends-two (vec_items c.args.out.now) (32 ∷ 42 ∷ []) c.in_ok-extend_from_slice.ensures.items c.write_members.ensures)
+    (appends-two (vec_items c.args.out.now) (32 ∷ 42 ∷ []) c.in_ok-extend_from_slice-in-Some.ensures.items c.write_members.ensures)

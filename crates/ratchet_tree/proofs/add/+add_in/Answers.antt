@@ -53,10 +53,10 @@ returns-then-height-eq0 t c =
     ∙ ap (added c.args.member.0 c.args.key) (sym (tree-first c.args.height c.args.nodes.now c.index-nodes-0.result c.if-height-eq0.true c.requires.0))
 
 pub invariant_of-left : goal.invariant_of-left
-invariant_of-left t c = (left-span c.args.height c.args.nodes.now c.if-height-eq0.false c.requires.0 c.left_half.ensures.value, (omega arith, tt))
+invariant_of-left t c = record { whole = left-span c.args.height c.args.nodes.now c.if-height-eq0.false c.requires.0 c.left_half.ensures.value; shallow = omega arith }
 
 pub invariant_of-right : goal.invariant_of-right
-invariant_of-right t c = (right-span c.args.height c.args.nodes.now c.if-height-eq0.false c.requires.0 c.right_half.ensures.value, (omega arith, tt))
+invariant_of-right t c = record { whole = right-span c.args.height c.args.nodes.now c.if-height-eq0.false c.requires.0 c.right_half.ensures.value; shallow = omega arith }
 
 pub bounds-nodes-middle : goal.bounds-nodes-middle
 bounds-nodes-middle t c = middle-within c.args.height c.args.nodes.now c.if-height-eq0.false c.requires.0

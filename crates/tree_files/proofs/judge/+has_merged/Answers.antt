@@ -1,6 +1,5 @@
 use Rattle.std.proofs.Common.{sym, ap, ◌∙◌}
 use Rattle.theory.specs.Wellformed.{some_merged}
-use Rattle.theory.specs.Tree.{Tree}
 use Rattle.ratchet_tree.specs.Nodes.{numbers}
 use Rattle.ratchet_tree.specs.Parts.{part_tree}
 use Rattle.ratchet_tree.proofs.Tests.{or-first, or-second}

@@ -1,5 +1,5 @@
-use Rattle.std.proofs.Common.{◌≡◌, true, ◌&&◌, sym, ◌∙◌}
-use Rattle.theory.specs.Wellformed.{apart, merges, consistent}
+use Rattle.std.proofs.Common.{sym, ◌∙◌}
+use Rattle.theory.specs.Wellformed.{consistent}
 use Rattle.ratchet_tree.specs.Nodes.{leaf_of, parent_of}
 use Rattle.ratchet_tree.specs.Parts.{part_tree}
 use Rattle.ratchet_tree.proofs.Tests.{and_first, and_second}

@@ -24,16 +24,16 @@ returns-in-Leaf t c =
       fits = λ k. leaf-fits c.args.part.height (part_tree c.args.part) (leaf_of c.in-Leaf.node.now) leaf.0 leaf.1 (c.write_leaf.ensures.fits k);
     }
 
-pub returns-in_ok-write_parent : goal.returns-in_ok-write_parent
-returns-in_ok-write_parent t c =
+pub returns-in_ok-write_parent-in-Parent : goal.returns-in_ok-write_parent-in-Parent
+returns-in_ok-write_parent-in-Parent t c =
     let halves = c.in-Parent.ensures in
     record {
       items =
           node-written (part_tree c.args.part) (parent_of c.in-Parent.node.now) (part_tree c.in-Parent.left) (part_tree c.in-Parent.right) halves.tree
           (vec_items c.args.out.now) (vec_items c.write_part.new.out) (vec_items c.write_parent.new.out) (vec_items c.write_part-in-Parent.new.out) c.write_part-in-Parent.result
-          (c.in_ok-write_part.ensures.items.items refl) (c.in_ok-write_parent.ensures.items.items refl) c.write_part-in-Parent.ensures.items;
+          (c.in_ok-write_part-in-Parent.ensures.items.items refl) (c.in_ok-write_parent-in-Parent.ensures.items.items refl) c.write_part-in-Parent.ensures.items;
       fits = λ k.
           node-fits (part_tree c.args.part) (parent_of c.in-Parent.node.now) (part_tree c.in-Parent.left) (part_tree c.in-Parent.right) halves.tree
           c.args.part.height c.in-Parent.left.height c.in-Parent.right.height halves.left halves.right
-          (c.in_ok-write_part.ensures.fits refl) (c.in_ok-write_parent.ensures.fits refl) (c.write_part-in-Parent.ensures.fits k);
+          (c.in_ok-write_part-in-Parent.ensures.fits refl) (c.in_ok-write_parent-in-Parent.ensures.fits refl) (c.write_part-in-Parent.ensures.fits k);
     }

@@ -1,5 +1,4 @@
-use Rattle.std.proofs.Common.{◌≡◌, take, vec_items}
-use Rattle.ratchet_tree.specs.Nodes.{numbers}
+use Rattle.std.proofs.Common.{vec_items}
 use Rattle.tree_files.proofs.Members.{Wrote}
 use Rattle.tree_files.proofs.write.write_members.Given as goal
 

@@ -1,4 +1,4 @@
-use Rattle.std.proofs.Common.{◌<◌, ◌≤◌, length, arith}
+use Rattle.std.proofs.Common.{◌≤◌, length, arith}
 use Rattle.wire.proofs.Fronts.{cut_at, too_short}
 use Rattle.wire.proofs.bytes.read_key.Goals as goal
 

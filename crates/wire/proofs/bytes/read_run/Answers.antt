@@ -1,4 +1,4 @@
-use Rattle.std.proofs.Common.{◌/◌, ◌<◌, ◌++◌, length, arith}
+use Rattle.std.proofs.Common.{◌/◌, ◌++◌, length}
 use native.Mathlib.Nat.{mul-div_cancel_left}
 use Rattle.wire.specs.Bytes.{be16}
 use Rattle.wire.proofs.Peeling.{read-run, peel-16}

@@ -18,16 +18,10 @@ pub bounds-nodes-nodes : goal.bounds-nodes-nodes
 bounds-nodes-nodes c = omega (arith, first_below c.args.self.height c.args.self.nodes.now c.args.self.whole)
 
 pub invariant_of-left : goal.invariant_of-left
-invariant_of-left c = (
-  left-span c.args.self.height c.args.self.nodes.now c.if-self-eq0.false c.args.self.whole c.left_half.ensures.value,
-  (omega arith, tt),
-)
+invariant_of-left c = record { whole = left-span c.args.self.height c.args.self.nodes.now c.if-self-eq0.false c.args.self.whole c.left_half.ensures.value; shallow = omega arith }
 
 pub invariant_of-right : goal.invariant_of-right
-invariant_of-right c = (
-  right-span c.args.self.height c.args.self.nodes.now c.if-self-eq0.false c.args.self.whole c.right_half.ensures.value,
-  (omega arith, tt),
-)
+invariant_of-right c = record { whole = right-span c.args.self.height c.args.self.nodes.now c.if-self-eq0.false c.args.self.whole c.right_half.ensures.value; shallow = omega arith }
 
 pub returns : goal.returns
 returns c =

@@ -4,10 +4,7 @@ use Rattle.ratchet_tree.proofs.Copies.{same-tree, same_length}
 use Rattle.ratchet_tree.proofs.tree.RatchetTree.copy.Goals as goal
 
 pub invariant_of-result : goal.invariant_of-result
-invariant_of-result c = (
-  omega (arith, same_length (vec_items c.in_ok-nodes.nodes) c.deref.result.now c.in_ok-nodes.ensures, c.deref.ensures.len, c.in_ok-nodes.nodes.ok.0),
-  (c.args.self.now.shallow, tt),
-)
+invariant_of-result c = record { whole = omega (arith, same_length (vec_items c.in_ok-nodes.nodes) c.deref.result.now c.in_ok-nodes.ensures, c.deref.ensures.len, c.in_ok-nodes.nodes.ok.0); shallow = c.args.self.now.shallow }
 
 pub returns : goal.returns
 returns c =

@@ -7,7 +7,7 @@ use Rattle.ratchet_tree.proofs.tree.RatchetTree.founded.Goals as goal
 
 pub invariant_of-result : goal.invariant_of-result
 unfolding span
-invariant_of-result c = (search rules, (omega arith, tt))
+invariant_of-result c = record { whole = search rules; shallow = omega arith }
 
 -- the first of a list that was empty and got one element
 first : (xs ys : List Node) (x : Node) → xs ≡ [] → ys ≡ xs ++ x ∷ [] → get_or ys 0 no_node ≡ x

@@ -6,6 +6,6 @@ use Rattle.ratchet_tree.proofs.tree.RatchetTree.remove.Goals as goal
 
 pub returns : goal.returns
 returns c =
-    ap (tree_of c.args.self.now.depth) (with_items_is c.args.self.now.nodes c.remove_in.new.nodes (c.remove_in.auto.nodes ∙ c.deref-mut.ensures.len))
+    ap (tree_of c.args.self.now.depth) (with_items_is c.args.self.now.nodes c.remove_in.new.nodes (c.remove_in.auto.nodes ∙ c.deref_mut.ensures.len))
     ∙ c.remove_in.ensures
-    ∙ ap (λ l. removed c.args.member.0 (tree_of c.args.self.now.depth l)) c.deref-mut.ensures.value
+    ∙ ap (λ l. removed c.args.member.0 (tree_of c.args.self.now.depth l)) c.deref_mut.ensures.value

@@ -1,7 +1,7 @@
 -- Runs of letters from a founder on: who takes them, what they carry, and which talk secrets stay secret.
 -- `halves_given`: what the committer's vault gives for a commit; `LetterMade`: its handset makes the letter of that;
 -- `boxes_sent`: the boxes of the letters so far; `carried`: the same as the letters carry them; `HandedOn`: a handset before and after a letter;
--- `LetterRun`: what holds of one run; `LetterRuns`: of every run.
+-- `LetterRun`: what holds of one run; `RunsOfLetters`: of every run.
 -- Assumes nothing.
 use Rattle.std.specs.Prelude.{◌≡◌, ℕ, zero, suc, ◌+◌, ◌<◌, T, List, [], ◌∷◌, ◌++◌, length, None, Ok}
 use Rattle.theory.specs.Group.{Commit, Group, allowed, group, message, own_key, path_at, path_key}
@@ -12,7 +12,7 @@ use Rattle.ratchet_tree.specs.Trees.{the_tree}
 use Rattle.ratchet_tree.specs.declared.member.PublicKey.{PublicKey}
 use Rattle.wire.specs.Bytes.{Half}
 use Rattle.messages.specs.Compose.{Composed, compose_refusal}
-use Rattle.messages.specs.Letters.{Delivered, Stands, first_halves, letter_of, sealed_bytes}
+use Rattle.messages.specs.Letters.{Arriving, Delivered, Stands, first_halves, letter_of, sealed_bytes}
 use Rattle.messages.specs.Message.{encode}
 use Rattle.messages.specs.Received.{TakesBytes}
 use Rattle.messages.specs.declared.handset.Handset.{Handset}
@@ -54,8 +54,10 @@ pub record HandedOn (half : Secret → PublicKey) (bytes : Box → List ℕ) (f 
 
 -- a run of letters, and the handsets that are read out meanwhile
 pub record LetterRun (half : Secret → PublicKey) (bytes : Box → List ℕ) (f : ℕ) (commits : ℕ → Commit) (es : List Exposure) : Type 0 where
-  -- the letter of every commit that is allowed fits its format; whom it concerns takes its bytes, and comes to the group's next tree and epoch
+  -- whom the letter of a commit that is allowed concerns doesn't refuse it, and comes to the group's next tree and epoch
   pub delivered : (n : ℕ) → T (allowed (commits n) (group f commits n)) → Delivered half bytes f commits n
+  -- the letter fits its format, and whom it concerns takes its bytes
+  pub arriving : (n : ℕ) → T (allowed (commits n) (group f commits n)) → Arriving half bytes f commits n
   -- so a handset that stood at the group once, and has taken every letter since, stands at it
   pub keeps :
       (start count : ℕ) (at : ℕ → Handset) → Stands half (group f commits start) (at 0) →
@@ -74,8 +76,8 @@ pub record LetterRun (half : Secret → PublicKey) (bytes : Box → List ℕ) (f
       Open f commits es n
 
 -- THE MAIN PROMISE, of letters: whatever the halves of 32 bytes and the boxes of 48 are, whichever member founds the group, whatever is committed and whoever is read out
-abbrev pub LetterRuns : Type 0
-LetterRuns =
+abbrev pub RunsOfLetters : Type 0
+RunsOfLetters =
     (half : Secret → PublicKey) (bytes : Box → List ℕ) →
     ((s : Secret) → Half (half s)) → ((b : Box) → length (bytes b) ≡ 48) →
     (f : ℕ) → f < nobody → (commits : ℕ → Commit) (es : List Exposure) → LetterRun half bytes f commits es

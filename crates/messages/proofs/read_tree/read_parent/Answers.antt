@@ -1,13 +1,13 @@
-use Rattle.std.proofs.Common.{◌≡◌, ℕ, ◌-◌, ◌<◌, ◌≤◌, List, ◌∷◌, ◌++◌, length, get_or, take, drop, vec_items, sym, refl, ap, ◌∙◌, arith, rules}
+use Rattle.std.proofs.Common.{◌≡◌, ◌-◌, ◌<◌, ◌≤◌, ◌++◌, length, get_or, take, drop, vec_items, sym, ◌∙◌, arith, rules}
 use Rattle.std.proofs.lemmas.List.{length-map}
 use Rattle.ratchet_tree.specs.Nodes.{numbers}
 use Rattle.ratchet_tree.specs.declared.member.MemberId.{MemberId}
 use Rattle.wire.specs.Bytes.{run_bytes}
-use Rattle.tree_files.specs.TreeFile.{members_bytes}
-use Rattle.tree_files.proofs.Members.{members-whole}
-use Rattle.tree_files.proofs.Nodes.{tagged, parent_is, parent-built}
+use Rattle.messages.specs.TreeFile.{members_bytes}
+use Rattle.messages.proofs.Members.{members-whole}
+use Rattle.messages.proofs.Nodes.{tagged, parent_is, parent-built}
 use Rattle.wire.proofs.Peeling.{peel-key}
-use Rattle.tree_files.proofs.parse.read_parent.Goals as goal
+use Rattle.messages.proofs.read_tree.read_parent.Goals as goal
 
 pub returns-in-0 : goal.returns-in-0
 returns-in-0 c =

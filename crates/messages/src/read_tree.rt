@@ -1,10 +1,10 @@
-// The bytes of a tree file, read node by node. Whether the tree keeps the rules is not judged here.
+// Reading a tree file, node by node.
 ghost use Rattle.std.specs.Prelude.{◌≡◌, ◌/◌, length, IfOk};
 ghost use Rattle.ratchet_tree.specs.Nodes.{as_leaf, numbers};
 ghost use Rattle.wire.specs.Bytes.{Reads, ReadsAs, Whole};
-ghost use Rattle.tree_files.specs.TreeFile.{FindsParent, FindsPart, FitsFile, FitsLeaf, FitsMembers, Parsed, file_head_bytes, leaf_bytes, members_bytes};
+ghost use Rattle.messages.specs.TreeFile.{FindsParent, FindsPart, FitsFile, FitsLeaf, FitsMembers, Parsed, file_head_bytes, leaf_bytes, members_bytes};
 
-use crate::tree_file::{FileHeader, ParseError};
+use crate::tree_file::{FileError, FileHeader};
 use commits::Epoch;
 use ratchet_tree::{Leaf, MemberId, Node, Parent, RatchetTree};
 use std::alloc::{AllocError, Global};
@@ -43,24 +43,24 @@ fn members_in(heap: Global, bytes: &[u8]) -> Result<Vec<MemberId>, AllocError>
     Ok(members)
 }
 
-fn read_parent(heap: Global, bytes: &[u8]) -> Result<(Parent, &[u8]), ParseError>
+fn read_parent(heap: Global, bytes: &[u8]) -> Result<(Parent, &[u8]), FileError>
     ensures { FindsParent bytes.now result }
 {
     match bytes {
         [0, rest @ ..] => Ok((Parent::Blank, rest)),
         [1, rest @ ..] => {
             let Some((key, rest)) = read_key(rest) else {
-                return Err(ParseError::Malformed);
+                return Err(FileError::Malformed);
             };
             let Some((members, rest)) = read_run(rest, PartSize { bytes: 2 }) else {
-                return Err(ParseError::Malformed);
+                return Err(FileError::Malformed);
             };
             let Ok(unmerged) = members_in(heap, members) else {
-                return Err(ParseError::OutOfMemory);
+                return Err(FileError::OutOfMemory);
             };
             Ok((Parent::Keyed { key, unmerged }, rest))
         }
-        _ => Err(ParseError::Malformed),
+        _ => Err(FileError::Malformed),
     }
 }
 
@@ -70,22 +70,22 @@ fn read_part<'a>(
     nodes: &mut Vec<Node>,
     height: usize,
     bytes: &'a [u8],
-) -> Result<&'a [u8], ParseError>
+) -> Result<&'a [u8], FileError>
     ensures { FindsPart height bytes.now nodes.old.items nodes.new.items result }
 {
     if height == 0 {
         let Some((leaf, rest)) = read_leaf(bytes) else {
-            return Err(ParseError::Malformed);
+            return Err(FileError::Malformed);
         };
         let Ok(()) = nodes.push(Node::Leaf(leaf)) else {
-            return Err(ParseError::OutOfMemory);
+            return Err(FileError::OutOfMemory);
         };
         return Ok(rest);
     }
     let rest = read_part(heap, nodes, height - 1, bytes)?;
     let (parent, rest) = read_parent(heap, rest)?;
     let Ok(()) = nodes.push(Node::Parent(parent)) else {
-        return Err(ParseError::OutOfMemory);
+        return Err(FileError::OutOfMemory);
     };
     read_part(heap, nodes, height - 1, rest)
 }
@@ -105,16 +105,16 @@ fn read_file_header(bytes: &[u8]) -> Option<(FileHeader, &[u8])>
 }
 
 // The epoch and the tree of a file, whatever the tree holds.
-pub(crate) fn parse_tree(heap: Global, bytes: &[u8]) -> Result<(Epoch, RatchetTree), ParseError>
+pub fn parse_tree(heap: Global, bytes: &[u8]) -> Result<(Epoch, RatchetTree), FileError>
     ensures tree { Parsed bytes.now result }
 {
     let Some((header, rest)) = read_file_header(bytes) else {
-        return Err(ParseError::Malformed);
+        return Err(FileError::Malformed);
     };
     let mut nodes = Vec::new(heap);
     let rest = read_part(heap, &mut nodes, header.depth, rest)?;
     if !rest.is_empty() {
-        return Err(ParseError::Malformed);
+        return Err(FileError::Malformed);
     }
     let tree = RatchetTree {
         nodes,

@@ -1,12 +1,12 @@
 -- The nodes of a tree file, one after the other.
 -- Assumes nothing.
-use Rattle.std.proofs.Common.{◌≡◌, ℕ, zero, suc, ◌+◌, ◌-◌, ◌*◌, ◌/◌, ◌%◌, ◌<◌, ◌≤◌, List, [], ◌∷◌, ◌++◌, length, get_or, take, drop, sym, refl, ap, ◌∙◌, subst, ap₂, append_assoc, arith}
+use Rattle.std.proofs.Common.{◌≡◌, ℕ, zero, suc, ◌-◌, ◌<◌, ◌≤◌, List, [], ◌∷◌, ◌++◌, length, get_or, take, drop, sym, refl, ap, ◌∙◌, ap₂, append_assoc, arith}
 use Rattle.theory.specs.Tree.{Tree, leaf, node, Leaf, blank_leaf, occupied, Parent, blank_parent, keyed}
 use Rattle.ratchet_tree.specs.declared.member.PublicKey.{PublicKey}
-use Rattle.wire.specs.Bytes.{be16, key_bytes, Half, Whole, run_bytes}
-use Rattle.tree_files.specs.TreeFile.{leaf_bytes, parent_bytes, members_bytes, nodes_bytes, FitsLeaf, FitsParent, FitsMembers, FitsPart}
+use Rattle.wire.specs.Bytes.{be16, key_bytes, Half, run_bytes}
+use Rattle.messages.specs.TreeFile.{leaf_bytes, parent_bytes, members_bytes, nodes_bytes, FitsLeaf, FitsParent, FitsMembers, FitsPart}
 use Rattle.wire.proofs.Fronts.{front-1}
-use Rattle.tree_files.proofs.Members.{members_run}
+use Rattle.messages.proofs.Members.{members_run}
 use Rattle.wire.proofs.Peeling.{peel-byte, peel-16, peel-key}
 
 -- the bytes behind a tag

@@ -1,20 +1,18 @@
 -- A whole tree file: its front, then its nodes, and nothing more.
 -- Assumes nothing.
-use Rattle.std.proofs.Common.{◌≡◌, ℕ, zero, suc, ◌+◌, ◌-◌, ◌*◌, ◌<◌, ◌≤◌, List, [], ◌∷◌, ◌++◌, length, get_or, take, drop, Ok, Err, Result, sym, refl, ap, ◌∙◌, subst, ap₂, arith}
+use Rattle.std.proofs.Common.{◌≡◌, ℕ, ◌+◌, ◌-◌, ◌*◌, ◌<◌, ◌≤◌, List, [], ◌∷◌, ◌++◌, length, get_or, take, drop, Err, sym, ap, ◌∙◌, subst, ap₂, arith}
 use Rattle.std.proofs.lemmas.List.{append-nil}
 use Rattle.theory.specs.Tree.{Tree}
-use Rattle.theory.specs.Limits.{max_depth}
 use Rattle.ratchet_tree.specs.Nodes.{tree_of}
 use Rattle.ratchet_tree.specs.declared.member.PublicKey.{PublicKey}
 use Rattle.ratchet_tree.specs.declared.node.Node.{Node}
-use Rattle.wire.specs.Bytes.{be32}
 use Rattle.messages.specs.Message.{Message, encode}
-use Rattle.tree_files.specs.TreeFile.{nodes_bytes, file_head, encode_tree, FitsPart, FitsTree, FitsFile, file_head_bytes, Grew, FindsPart, Parsed}
-use Rattle.tree_files.specs.declared.tree_file.FileHeader.{FileHeader}
-use Rattle.tree_files.specs.declared.tree_file.ParseError.{ParseError}
-use Rattle.tree_files.specs.declared.tree_file.ParseError.TheVariants.{Malformed, OutOfMemory}
+use Rattle.messages.specs.TreeFile.{nodes_bytes, file_head, encode_tree, FitsPart, FitsTree, FitsFile, file_head_bytes, Grew, FindsPart, Parsed}
+use Rattle.messages.specs.declared.tree_file.FileHeader.{FileHeader}
+use Rattle.messages.specs.declared.tree_file.FileError.{FileError}
+use Rattle.messages.specs.declared.tree_file.FileError.TheVariants.{Malformed, OutOfMemory}
 use Rattle.wire.proofs.Fronts.{front-6, be32-from}
-use Rattle.tree_files.proofs.Nodes.{peel-part}
+use Rattle.messages.proofs.Nodes.{peel-part}
 use Rattle.wire.proofs.Peeling.{peel-byte, peel-32}
 
 pub read-file-head : (b : List ℕ) (e : ℕ) → 6 ≤ length b → ((i : ℕ) → get_or b i 0 < 256) → get_or b 0 0 ≡ 6 →
@@ -53,7 +51,7 @@ module _ (b : List ℕ) (h : FileHeader) (r : List ℕ) (p : FitsFile h × (b �
       let a = peel-file h.epoch.0 h.depth e d r (nodes_bytes t) p.0.0 f.epoch (sym p.1 ∙ g) in
       (subst (λ (n : ℕ). FitsPart n t) (sym a.1) f.nodes, a.2)
 
-  pub no-nodes : (before after : List Node) (x : ParseError) → FindsPart h.depth r before after (Err x) → Parsed b (Err x)
+  pub no-nodes : (before after : List Node) (x : FileError) → FindsPart h.depth r before after (Err x) → Parsed b (Err x)
   no-nodes before after Malformed none = λ e d t f g. let a = behind e d t f g in none t [] a.0 (a.1 ∙ sym (append-nil (nodes_bytes t)))
   no-nodes before after OutOfMemory none = none
 

@@ -1,8 +1,8 @@
-use Rattle.std.proofs.Common.{◌≡◌, ℕ, ◌-◌, ◌<◌, ◌≤◌, List, ◌∷◌, ◌++◌, length, get_or, take, drop, sym, refl, ap, ◌∙◌, append_assoc, rules}
+use Rattle.std.proofs.Common.{◌≡◌, ℕ, ◌-◌, ◌≤◌, List, ◌∷◌, ◌++◌, length, get_or, take, drop, sym, ap, ◌∙◌, rules}
 use Rattle.wire.specs.Bytes.{be16, key_bytes}
-use Rattle.tree_files.proofs.Nodes.{tagged, leaf-is}
+use Rattle.messages.proofs.Nodes.{tagged, leaf-is}
 use Rattle.wire.proofs.Peeling.{peel-16}
-use Rattle.tree_files.proofs.parse.read_leaf.Goals as goal
+use Rattle.messages.proofs.read_tree.read_leaf.Goals as goal
 
 pub returns-in-0 : goal.returns-in-0
 returns-in-0 c =

@@ -1,6 +1,6 @@
 use Rattle.std.proofs.Common.{◌≡◌, ℕ, ◌<◌, ◌≤◌, length, get_or, arith, rules}
-use Rattle.tree_files.proofs.Filing.{read-file-head}
-use Rattle.tree_files.proofs.parse.read_file_header.Goals as goal
+use Rattle.messages.proofs.Filing.{read-file-head}
+use Rattle.messages.proofs.read_tree.read_file_header.Goals as goal
 
 pub returns : goal.returns
 returns c =

@@ -1,8 +1,8 @@
-use Rattle.std.proofs.Common.{◌≡◌, vec_items}
+use Rattle.std.proofs.Common.{vec_items}
 use Rattle.std.proofs.lemmas.Result.{err_from_is_err_and}
-use Rattle.tree_files.proofs.Filing.{no_front, no-nodes, no_more, all_read}
+use Rattle.messages.proofs.Filing.{no_front, no-nodes, no_more, all_read}
 use Rattle.wire.proofs.Peeling.{some_left, none_left}
-use Rattle.tree_files.proofs.parse.parse_tree.Goals as goal
+use Rattle.messages.proofs.read_tree.parse_tree.Goals as goal
 
 pub returns-in_default : goal.returns-in_default
 returns-in_default c = record { tree = no_front c.args.bytes.now c.in_default.ensures }

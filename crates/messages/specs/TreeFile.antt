@@ -16,9 +16,9 @@ use Rattle.wire.specs.Bytes.{be16, be32, key_bytes, Half}
 use Rattle.commits.specs.declared.change.Epoch.{Epoch}
 use Rattle.ratchet_tree.specs.Trees.{the_tree}
 use Rattle.ratchet_tree.specs.declared.tree.RatchetTree.{RatchetTree}
-use Rattle.tree_files.specs.declared.tree_file.FileHeader.{FileHeader}
-use Rattle.tree_files.specs.declared.tree_file.ParseError.{ParseError}
-use Rattle.tree_files.specs.declared.tree_file.ParseError.TheVariants.{Malformed, OutOfMemory}
+use Rattle.messages.specs.declared.tree_file.FileHeader.{FileHeader}
+use Rattle.messages.specs.declared.tree_file.FileError.{FileError}
+use Rattle.messages.specs.declared.tree_file.FileError.TheVariants.{Malformed, OutOfMemory}
 
 abbrev pub leaf_bytes : Leaf PublicKey → List ℕ
 leaf_bytes blank_leaf = 0 ∷ []
@@ -75,13 +75,13 @@ abbrev pub file_head_bytes : FileHeader → List ℕ
 file_head_bytes h = file_head h.epoch.0 h.depth
 
 -- the bytes are those of an epoch and a tree, or of none
-abbrev pub Parsed : List ℕ → Result (Epoch × RatchetTree) ParseError → Type 0
+abbrev pub Parsed : List ℕ → Result (Epoch × RatchetTree) FileError → Type 0
 Parsed b (Ok p) = FitsTree p.0.0 p.1.depth (the_tree p.1) × (b ≡ encode_tree p.0.0 p.1.depth (the_tree p.1))
 Parsed b (Err Malformed) = (e d : ℕ) (t : Tree PublicKey) → FitsTree e d t → b ≢ encode_tree e d t
 Parsed b (Err OutOfMemory) = Unit {0}
 
 -- a parent at the front of some bytes
-abbrev pub FindsParent : List ℕ → Result (parent.Parent × Bor (List ℕ)) ParseError → Type 0
+abbrev pub FindsParent : List ℕ → Result (parent.Parent × Bor (List ℕ)) FileError → Type 0
 FindsParent b (Ok p) = FitsParent (as_parent p.0) × (b ≡ parent_bytes (as_parent p.0) ++ p.1.now)
 FindsParent b (Err Malformed) = (p : Parent PublicKey) (rest : List ℕ) → FitsParent p → b ≢ parent_bytes p ++ rest
 FindsParent b (Err OutOfMemory) = Unit {0}
@@ -94,7 +94,7 @@ pub record Grew (h : ℕ) (b : List ℕ) (before after : List Node) (rest : List
   pub fits : FitsPart h (tree_of h new)
   pub bytes : b ≡ nodes_bytes (tree_of h new) ++ rest
 
-abbrev pub FindsPart : ℕ → List ℕ → List Node → List Node → Result (Bor (List ℕ)) ParseError → Type 0
+abbrev pub FindsPart : ℕ → List ℕ → List Node → List Node → Result (Bor (List ℕ)) FileError → Type 0
 FindsPart h b before after (Ok rest) = Grew h b before after rest.now
 FindsPart h b before after (Err Malformed) = (t : Tree PublicKey) (rest : List ℕ) → FitsPart h t → b ≢ nodes_bytes t ++ rest
 FindsPart h b before after (Err OutOfMemory) = Unit {0}

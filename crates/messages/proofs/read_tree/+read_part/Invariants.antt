@@ -1,4 +1,4 @@
-use Rattle.tree_files.proofs.parse.+read_part.Given as goal
+use Rattle.messages.proofs.read_tree.+read_part.Given as goal
 
 abbrev pub decreases-read_part : goal.decreases-read_part
 decreases-read_part l = l.height

@@ -1,20 +1,20 @@
 -- A part of a tree file: its left, the node between, its right.
 -- Assumes nothing.
-use Rattle.std.proofs.Common.{◌≡◌, ℕ, zero, suc, ◌+◌, ◌-◌, ◌<◌, ◌≤◌, List, [], ◌∷◌, ◌++◌, length, get_or, take, drop, Ok, Err, Result, sym, refl, ap, ◌∙◌, subst, ap₂, append_assoc, arith, Bor}
+use Rattle.std.proofs.Common.{◌≡◌, ℕ, zero, suc, ◌+◌, List, [], ◌∷◌, ◌++◌, take, drop, Ok, Err, Result, sym, refl, ap, ◌∙◌, subst, ap₂, append_assoc, arith, Bor}
 use Rattle.theory.specs.Tree.{Tree, leaf, node, Leaf, Parent}
 use Rattle.tree_math.specs.Span.{span}
 use Rattle.tree_math.proofs.Span.{built-left, built-middle, built-right, built-length}
-use Rattle.ratchet_tree.specs.Nodes.{as_leaf, as_parent, leaf_of, parent_of, tree_of, no_node}
+use Rattle.ratchet_tree.specs.Nodes.{as_leaf, as_parent, parent_of, tree_of, no_node}
 use Rattle.ratchet_tree.proofs.Trees.{tree-suc}
 use Rattle.ratchet_tree.specs.declared.member.PublicKey.{PublicKey}
 use Rattle.ratchet_tree.specs.declared.node.Leaf as leaf-code
 use Rattle.ratchet_tree.specs.declared.node.Parent as parent-code
 use Rattle.ratchet_tree.specs.declared.node.Node.{Node}
 use Rattle.ratchet_tree.specs.declared.node.Node.TheVariants as node-code
-use Rattle.tree_files.specs.TreeFile.{leaf_bytes, parent_bytes, nodes_bytes, FitsLeaf, FitsParent, FitsPart, Grew, FindsPart, FindsParent}
-use Rattle.tree_files.specs.declared.tree_file.ParseError.{ParseError}
-use Rattle.tree_files.specs.declared.tree_file.ParseError.TheVariants.{Malformed, OutOfMemory}
-use Rattle.tree_files.proofs.Nodes.{node-bytes, peel-part, peel-parent}
+use Rattle.messages.specs.TreeFile.{leaf_bytes, parent_bytes, nodes_bytes, FitsLeaf, FitsParent, FitsPart, Grew, FindsPart, FindsParent}
+use Rattle.messages.specs.declared.tree_file.FileError.{FileError}
+use Rattle.messages.specs.declared.tree_file.FileError.TheVariants.{Malformed, OutOfMemory}
+use Rattle.messages.proofs.Nodes.{node-bytes, peel-part, peel-parent}
 
 -- a leaf
 pub leaf-refused : (h : ℕ) (b : List ℕ) → h ≡ 0 → ((x : Leaf PublicKey) (rest : List ℕ) → FitsLeaf x → b ≡ leaf_bytes x ++ rest → ⊥) →
@@ -31,11 +31,11 @@ leaf-grew zero b rest before after x z f e i = record { new = node-code.Leaf x �
 leaf-grew (suc h) b rest before after x z f e i = absurd (omega arith)
 
 -- the same at a height that is written another way
-pub finds-at : (h k : ℕ) (b : List ℕ) (before after : List Node) (r : Result (Bor (List ℕ)) ParseError) → suc k ≡ h → FindsPart (suc k) b before after r → FindsPart h b before after r
+pub finds-at : (h k : ℕ) (b : List ℕ) (before after : List Node) (r : Result (Bor (List ℕ)) FileError) → suc k ≡ h → FindsPart (suc k) b before after r → FindsPart h b before after r
 finds-at h k b before after r e f = subst (λ (n : ℕ). FindsPart n b before after r) e f
 
 -- what isn't a left half is no part
-pub left-refused : (k : ℕ) (b : List ℕ) (before after : List Node) (e : ParseError) → FindsPart k b before after (Err e) → FindsPart (suc k) b before after (Err e)
+pub left-refused : (k : ℕ) (b : List ℕ) (before after : List Node) (e : FileError) → FindsPart k b before after (Err e) → FindsPart (suc k) b before after (Err e)
 unfolding FitsPart
 left-refused k b before after Malformed none = λ t rest f g. at t rest f g
   where
@@ -50,7 +50,7 @@ module _ (k : ℕ) (b rest₁ : List ℕ) (before nodes₁ : List Node) (g : Gre
   left-peeled p l r rest f e = (peel-part k (tree_of k g.new) l rest₁ (parent_bytes p ++ (nodes_bytes r ++ rest)) g.fits f (sym g.bytes ∙ e ∙ node-bytes p l r rest)).1
 
   -- what isn't a parent behind it is no part
-  pub parent-refused : (after : List Node) (e : ParseError) → FindsParent rest₁ (Err e) → FindsPart (suc k) b before after (Err e)
+  pub parent-refused : (after : List Node) (e : FileError) → FindsParent rest₁ (Err e) → FindsPart (suc k) b before after (Err e)
   unfolding FitsPart
   parent-refused after Malformed none = λ t rest f h. at t rest f h
     where
@@ -79,7 +79,7 @@ module _ (k : ℕ) (b rest₁ : List ℕ) (before nodes₁ : List Node) (g : Gre
               ∙ sym (node-bytes (as_parent x) (tree_of k g.new) (tree_of k r.new) rest₃) ∙ ap (λ (t : Tree PublicKey). nodes_bytes t ++ rest₃) (sym is);
         }
 
-    pub right-finds : (nodes₃ : List Node) (r : Result (Bor (List ℕ)) ParseError) → FindsPart k rest₂ nodes₂ nodes₃ r → FindsPart (suc k) b before nodes₃ r
+    pub right-finds : (nodes₃ : List Node) (r : Result (Bor (List ℕ)) FileError) → FindsPart k rest₂ nodes₂ nodes₃ r → FindsPart (suc k) b before nodes₃ r
     unfolding FitsPart
     right-finds nodes₃ (Ok rest₃) f = right-grew nodes₃ rest₃.now f
     right-finds nodes₃ (Err Malformed) none = λ t rest f h. at t rest f h

@@ -1,7 +1,7 @@
 use Rattle.std.proofs.Common.{◌≡◌, suc, ◌-◌, Err, vec_items, arith}
 use Rattle.std.proofs.lemmas.Result.{err_from_is_err_and}
-use Rattle.tree_files.proofs.Growing.{leaf-refused, leaf-grew, finds-at, left-refused, parent-refused, right-finds}
-use Rattle.tree_files.proofs.parse.+read_part.Goals as goal
+use Rattle.messages.proofs.Growing.{leaf-refused, leaf-grew, finds-at, left-refused, parent-refused, right-finds}
+use Rattle.messages.proofs.read_tree.+read_part.Goals as goal
 
 pub returns-in_default : goal.returns-in_default
 returns-in_default t c = leaf-refused c.args.height c.args.bytes.now c.if-height-eq0.true c.in_default.ensures

@@ -1,6 +1,6 @@
 use Rattle.std.proofs.Common.{◌≡◌, ◌+◌, ◌*◌, ◌/◌, ◌<◌, length, get_or, vec_items, arith, rules}
-use Rattle.tree_files.proofs.Members.{read_more, read_all}
-use Rattle.tree_files.proofs.parse.members_in.Goals as goal
+use Rattle.messages.proofs.Members.{read_more, read_all}
+use Rattle.messages.proofs.read_tree.members_in.Goals as goal
 
 pub loop-i-preserved : goal.loop-i-preserved
 loop-i-preserved c =

@@ -1,5 +1,0 @@
-use Rattle.tree_files.proofs.Filing.{no-message-is-a-tree}
-use Rattle.tree_files.proofs.laws.no_message_is_a_tree_holds.Goals as goal
-
-pub returns : goal.returns
-returns c = record { law = no-message-is-a-tree }
