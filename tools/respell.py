@@ -49,6 +49,9 @@ BEFORE = [
     ("crates/theory/proofs/Opened.antt", "is_open", "is_open-sound"),
 ]
 
+# Constructors that were spelled with a dash.
+DASHED = {"no-founder": "no_founder", "bad-founder": "bad_founder"}
+
 # Definitions imported under another name, where a function of that name stands in the file: (file, definition, name there).
 BESIDE = [
     ("crates/messages/src/handset.rt", "commit_of", "commit_meant", "commitOf"),
@@ -83,6 +86,8 @@ def main():
                 new = "\n".join(
                     whole(was).sub(f"{name} as {there}" if line.startswith("ghost use") else there, line) for line in new.split("\n")
                 )
+        for a, b in DASHED.items():
+            new = whole(a).sub(b, new)
         new = WORD.sub(lambda m: NEW.get(m[0], m[0]), new)
         if new != old:
             p.write_text(new, encoding="utf-8")

@@ -3,7 +3,7 @@
 -- `counts_match`, `message_refusal`: why a message is refused; `Left`: why a handset stays as it was; `Accepts`: the tree that the path is laid on, or why there is none;
 -- `Taken`, `Takes`: the handset after the message, or the refusal.
 -- Assumes nothing.
-use Rattle.std.specs.Prelude.{◌≡◌, ℕ, suc, ◌+◌, ◌/◌, ◌<◌, Bool, false, not, ◌&&◌, List, [], ◌∷◌, ◌++◌, length, get_or, Some, None, Ok, Err, Option, Result, ◌==◌, nat_le, slice_index_or}
+use Rattle.std.specs.Prelude.{◌≡◌, ℕ, suc, ◌+◌, ◌/◌, ◌<◌, Bool, false, not, ◌&&◌, List, [], ◌∷◌, ◌++◌, length, Some, None, Ok, Err, Option, Result, ◌==◌, nat_le, slice_index_or}
 use Rattle.theory.specs.Group.{Change, renew, remove, add, Commit, first_of, refusal, readied, laid_by}
 use Rattle.theory.specs.Limits.{last_epoch}
 use Rattle.theory.specs.Tree.{Tree, seated}
@@ -85,7 +85,7 @@ pub record Taken (h : Handset) (m : Message) (g : Handset) : Type 0 where
   pub allowed : message_refusal h.member.0 h.epoch.0 (the_tree h.tree) m ≡ None
   pub keys : List PublicKey
   pub holds : HoldsKeys keys m.node_keys
-  pub tree : the_tree g.tree ≡ (laid_by (commit_asked m) (fresh_key m) m.leaf_key (λ i. get_or keys i m.leaf_key) (the_tree h.tree)).tree
+  pub tree : the_tree g.tree ≡ (laid_by (commit_asked m) (fresh_key m) m.leaf_key (λ i. slice_index_or keys i m.leaf_key) (the_tree h.tree)).tree
   pub epoch : g.epoch.0 ≡ suc h.epoch.0
   pub member : g.member ≡ h.member
 

@@ -10,7 +10,7 @@ use Rattle.scripts.proofs.Distinct.{lines-differ, founders-differ}
 use Rattle.scripts.specs.Line.{InRange, MemberInRange, founder_bytes, line_bytes}
 use Rattle.scripts.specs.Lines.{lines_of, max_lines}
 use Rattle.playback.specs.Laws.{PrintedOnce}
-use Rattle.playback.specs.Play.{State, founding, after, reported, Answers, malformed, refused, carried, Plays, start, next, Printed, too_long, empty, no-founder, bad-founder, played}
+use Rattle.playback.specs.Play.{State, founding, after, reported, Answers, malformed, refused, carried, Plays, start, next, Printed, too_long, empty, no_founder, bad_founder, played}
 use Rattle.playback.specs.Report.{refusal_bytes}
 
 -- ONE LINE.
@@ -73,9 +73,9 @@ data Reads (lines : List (List ℕ)) : List ℕ → Type 0 where
 reads : (input : List ℕ) {a : List ℕ} → Printed input a → Reads (lines_of input) a
 reads input (too_long h) = unfounded (λ m rest b. let le = b.1 in omega arith)
 reads input (empty e) = unfounded (λ m rest b. omega (arith, ap length (sym e ∙ b.2)))
-reads input (no-founder first rest le e none) =
+reads input (no_founder first rest le e none) =
     unfounded (λ m more b. let both : first ∷ rest ≡ founder_bytes m ∷ more = sym e ∙ b.2 in let heads : first ≡ founder_bytes m = cc in none m b.0 heads)
-reads input (bad-founder m rest le e z) = founded (refusal_bytes 8) m rest (omega arith, le, e) (nobodys z)
+reads input (bad_founder m rest le e z) = founded (refusal_bytes 8) m rest (omega arith, le, e) (nobodys z)
 reads input (played m rest end bytes le e z p) = founded bytes m rest (omega arith, le, e) (somebodys end bytes z p)
 
 founds-once : (m : MemberId) (rest : List (List ℕ)) {a b : List ℕ} → Founds m rest a → Founds m rest b → a ≡ b

@@ -60,9 +60,9 @@ pub data Printed (input : List ℕ) : List ℕ → Type 0 where
   too_long : max_lines < length (lines_of input) → Printed input (refusal_bytes 1)
   empty : lines_of input ≡ [] → Printed input (refusal_bytes 1)
   -- its first line is no founder's, or names nobody
-  no-founder : (first : List ℕ) (rest : List (List ℕ)) → length (lines_of input) ≤ max_lines → lines_of input ≡ first ∷ rest →
+  no_founder : (first : List ℕ) (rest : List (List ℕ)) → length (lines_of input) ≤ max_lines → lines_of input ≡ first ∷ rest →
       ((m : MemberId) → MemberInRange m → first ≢ founder_bytes m) → Printed input (refusal_bytes 1)
-  bad-founder : (m : MemberId) (rest : List (List ℕ)) → length (lines_of input) ≤ max_lines → lines_of input ≡ founder_bytes m ∷ rest → m.0 ≡ nobody → Printed input (refusal_bytes 8)
+  bad_founder : (m : MemberId) (rest : List (List ℕ)) → length (lines_of input) ≤ max_lines → lines_of input ≡ founder_bytes m ∷ rest → m.0 ≡ nobody → Printed input (refusal_bytes 8)
   -- the other lines are played
   played : (m : MemberId) (rest : List (List ℕ)) (end : State) (bytes : List ℕ) → length (lines_of input) ≤ max_lines → lines_of input ≡ founder_bytes m ∷ rest → m.0 < nobody →
       Plays (founding m.0) rest end bytes → Printed input bytes

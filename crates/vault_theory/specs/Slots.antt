@@ -1,6 +1,6 @@
 -- The slots theorem: orders never fault, and leave in a vault exactly what its member then holds.
 -- `concerns`: whom a commit concerns; `draws_of`, `given_by`: what it draws and which halves it gives; `orders_in`: its orders; `chip_with`: a vault before its orders;
--- `Carried`, `SlotsKept`: one commit, from any tree that keeps the rules; `chip`, `ChipsHold`: every chip of every run.
+-- `carried_out`, `SlotsKept`: one commit, from any tree that keeps the rules; `chip`, `ChipsHold`: every chip of every run.
 -- Assumes nothing.
 use Rattle.std.specs.Prelude.{◌≡◌, ℕ, zero, suc, ◌≤◌, Bool, false, cond, ◌&&◌, ◌||◌, T, List, [], ◌∷◌, ◌++◌, map, Some, None, Option, ◌==◌}
 use Rattle.std.specs.Option.{option_map}

@@ -5,7 +5,7 @@ use Rattle.std.specs.declared.alloc.Global.{Global}
 use Rattle.ratchet_tree.specs.declared.member.MemberId.{MemberId}
 use Rattle.scripts.specs.Line.{founder_bytes}
 use Rattle.scripts.specs.Lines.{lines_of, max_lines}
-use Rattle.playback.specs.Play.{State, Plays, Printed, too_long, empty, no-founder, bad-founder, played, founding}
+use Rattle.playback.specs.Play.{State, Plays, Printed, too_long, empty, no_founder, bad_founder, played, founding}
 use Rattle.playback.specs.Report.{refusal_bytes}
 use Rattle.playback.specs.Steps.{Played}
 use Rattle.playback.proofs.script.play.Goals as goal
@@ -39,7 +39,7 @@ returns-in_default-read_founder c =
     record {
       bytes =
           printed-as c.args.input.now (refusal_bytes 1) c.refused-in_default-read_founder.result c.refused-in_default-read_founder.ensures
-          (no-founder c.in-Some.first.now (lines_of c.in-Some.rest.now) (ltb-false max_lines (length (lines_of c.args.input.now)) (sym c.if-too_long.ensures))
+          (no_founder c.in-Some.first.now (lines_of c.in-Some.rest.now) (ltb-false max_lines (length (lines_of c.args.input.now)) (sym c.if-too_long.ensures))
           c.in-Some.ensures c.in_default-read_founder.ensures);
     }
 
@@ -48,7 +48,7 @@ returns-then-founder c =
     record {
       bytes =
           printed-as c.args.input.now (refusal_bytes 8) c.refused-then-founder.result c.refused-then-founder.ensures
-          (bad-founder c.in-Some-read_founder.founder (lines_of c.in-Some.rest.now) (ltb-false max_lines (length (lines_of c.args.input.now)) (sym c.if-too_long.ensures))
+          (bad_founder c.in-Some-read_founder.founder (lines_of c.in-Some.rest.now) (ltb-false max_lines (length (lines_of c.args.input.now)) (sym c.if-too_long.ensures))
           (c.in-Some.ensures ∙ ap (λ x. x ∷ lines_of c.in-Some.rest.now) c.in-Some-read_founder.ensures.0) c.if-founder.true);
     }
 
