@@ -29,7 +29,7 @@ use Rattle.messages.specs.Letters.{Concerns, Stands, TookLetter}
 use Rattle.messages.specs.Message.{Message}
 use Rattle.messages.specs.Take.{Taken, commit_asked, fresh_key}
 use Rattle.messages.specs.declared.handset.Handset.{Handset}
-use Rattle.messages.proofs.Delivery.{letters-deliver}
+use Rattle.messages.proofs.Delivery.{letters-arrive, letters-deliver}
 use Rattle.messages.proofs.Reading.{one-reading}
 use Rattle.orders.specs.Answered.{orders_for}
 use Rattle.orders.specs.Order.{order_of}
@@ -143,8 +143,9 @@ pub chips-served : ChipsServed
 chips-served keys alike halves bytes boxed f fine commits n ok h after at who (Ok v) r =
     let w = h.member.0 in
     let l = letter_of keys.half bytes f commits n in
-    let d = letters-deliver keys.half bytes halves boxed f fine commits n ok in
-    let same : r.message ≡ l = sym (one-reading l r.message d.fits r.fits r.bytes) in
+    let d = letters-deliver keys.half bytes halves boxed f commits n ok in
+    let arriving = letters-arrive keys.half bytes halves boxed f fine commits n ok in
+    let same : r.message ≡ l = sym (one-reading l r.message arriving.fits r.fits r.bytes) in
     let taken : Taken h l after = subst (λ (m : Message). Taken h m after) same r.taken in
     let orders : map order_of (vec_items v) ≡ map (map_order keys.half) (orders_in w (commits n) (group f commits n)) =
     r.orders ∙ ap (λ (m : Message). map cap_order (orders_for h m)) same ∙ orders-there keys.half bytes f commits n ok h at in (
@@ -153,6 +154,6 @@ chips-served keys alike halves bytes boxed f fine commits n ok h after at who (O
     )
 chips-served keys alike halves bytes boxed f fine commits n ok h after at who (Err e) r =
     let l = letter_of keys.half bytes f commits n in
-    let d = letters-deliver keys.half bytes halves boxed f fine commits n ok in
+    let arriving = letters-arrive keys.half bytes halves boxed f fine commits n ok in
     not-refused l (Stands keys.half (group f commits (suc n))) h after e r.0
-    (d.arrives h after (Err e) at (concerned h.member.0 (commits n) (group f commits n) who) r)
+    (arriving.arrives h after (Err e) at (concerned h.member.0 (commits n) (group f commits n) who) r)
