@@ -5,7 +5,7 @@ use mathlib.Core.Bool.{or-false}
 use mathlib.Core.List.Memᴰ
 use mathlib.Core.List.{Memᴰ}
 use lib.Dec.{not_T, eqb_refl}
-use Rattle.theory.specs.Secrets.{Secret, drawn, newcomer_key, init_key, lock, seed, talk, ups, Box, Knows, had, raise, locked, mixed, seeded, talked, opened}
+use Rattle.theory.specs.Secrets.{Secret, drawn, newcomer_key, lock, seed, talk, ups, Box, Knows, had, raise, locked, mixed, seeded, talked, opened}
 use Rattle.theory.specs.Tree.{Tree, leaf, node, blank_leaf, occupied, Parent, blank_parent, keyed, seated, full, leaf_key, leaf_keys, resolution, blank_tree, grown, unmerged_at, removed}
 use Rattle.theory.specs.Path.{Target, Laid, sealed_to, parent_laid, level_after}
 use Rattle.theory.specs.Held.{is_unmerged, node_key_held, held}
@@ -160,7 +160,7 @@ module _ (boxes : List Box) (had : List Secret) (p : Secret) where
   known-level : (i : ℕ) (ks : List Secret) → Kn (ups i p) → Kn (ups (level_after i ks) p)
   unfolding ups
   known-level i [] k = k
-  known-level i (x ∷ ks) k = raise k
+  known-level i (x ∷ ks) k = search (raise)
 
   -- the keys held in a part
   held-in-left : (m : ℕ) (c : Parent Secret) (l r : Tree Secret) → T (seated m l) → All Kn (held m (node c l r)) → All Kn (held m l)
@@ -226,7 +226,7 @@ module _ (boxes : List Box) (had : List Secret) (p : Secret) where
   known-ups : Kn p → (i : ℕ) → Kn (ups i p)
   unfolding ups
   known-ups k zero = k
-  known-ups k (suc i) = raise (known-ups k i)
+  known-ups k (suc i) = let below = known-ups k i in search (raise)
 
   -- the committer makes every key of its path
   pub make-path :
@@ -383,7 +383,7 @@ stock-known P m g a b f =
 welcome-holds : (P : Secret → Type 0) (a : Change) (e : ℕ) (s : Secret) → P s → All (λ (b : Box). P b.holds) (welcome a e s)
 welcome-holds P renew e s k = all_nil (λ (b : Box). P b.holds)
 welcome-holds P (remove m) e s k = all_nil (λ (b : Box). P b.holds)
-welcome-holds P (add m) e s k = all_one (λ (b : Box). P b.holds) (record { key = drawn init_key m e; holds = s }) k
+welcome-holds P (add m) e s k = all_one (λ (b : Box). P b.holds) _ k
 
 module _ (c : Commit) (g : Group) where
   -- the next epoch, the path that leads to it, and the message, if the commit is carried out
@@ -482,9 +482,8 @@ enter-commit w j g ok =
     (other_way j w (stranger j w g.tree absent ok.present)) (newly-seated a) (path-sent c g old)
     (rw (newly-held a absent') (all_one (Knows boxes old) fresh (had (Memᴰ.head refl)))) in
     turned c g boxes old j
-    (opened (record { key = drawn init_key j (next c g); holds = (after c g).secret })
-    (Memᴰ.append_right (path_boxes (path_key c (next c g)) (path c g).targets) (Memᴰ.head refl))
-    (had (Memᴰ.tail (Memᴰ.head refl))))
+    (opened _ (Memᴰ.append_right (path_boxes (path_key c (next c g)) (path c g).targets) (Memᴰ.head refl))
+    (had (search (Memᴰ.head, Memᴰ.tail))))
     new.0
 
 -- a commit whose change is known

@@ -18,7 +18,8 @@ vacated m x = cond (is_at m x) blank_leaf x
 pub removed-absent : {K : Type 0} (m : ℕ) (t : Tree K) → T (not (seated m t)) → removed m t ≡ t
 unfolding removed seated
 removed-absent m (leaf x) h = rw (is_false (is_at m x) h)
-removed-absent m (node p l r) h = rw (is_false (seated m l || seated m r) h)
+removed-absent m (node p l r) h =
+    simp (is_false (seated m l) (nor-left (seated m l) (seated m r) h), is_false (seated m r) (nor-right (seated m l) (seated m r) h))
 
 -- so a removal goes through both sides
 pub removed-node :

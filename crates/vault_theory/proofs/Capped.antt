@@ -13,7 +13,7 @@ use Rattle.theory.proofs.Level as level
 use Rattle.theory.proofs.Wellformed.{Fine, renewal, removal, addition, permitted, Sound, at_leaf, at_node, readied-sound, consistent-sound}
 use Rattle.theory.proofs.Counting.{named-few, resolution-few, seated-many}
 use Rattle.theory.proofs.Follows.{All, all_append, all_one, all_cons, all_nil}
-use Rattle.vault_theory.specs.Order.{Order, draw, derive, mix, seal, unseal, forget, publish, init_slot, epoch_slot, slot_of_key, slot_of_path}
+use Rattle.vault_theory.specs.Order.{Order, draw, derive, mix, seal, unseal, forget, publish, slot_of_key, slot_of_path}
 use Rattle.vault_theory.specs.Numbers.{levels, posted, is_held, before, number_of_key}
 use Rattle.vault_theory.specs.Orders.{held_forgotten, dropped, dropped_for, climbed, sealed_up, opened, followed, made, renewed, turned, staying, welcoming, committing, joining, abandoned, taking, orders_of}
 use Rattle.vault_theory.specs.Capped.{BoxesThere, BoxesFew, cap, cap_order, CapKeeps}
@@ -127,7 +127,7 @@ module _ {K : Type 0} (k : ℕ) where
   dropped-under w m (node p l r) =
       both-lists (cond (seated w l) (dropped w m l) (dropped w m r)) _
       (either (seated w l) _ _ (dropped-under w m l) (dropped-under w m r))
-      (either (seated m l || seated m r) _ _ (held_forgotten-under w p (suc (height l))) none)
+      (either _ _ _ (held_forgotten-under w p (suc (height l))) none)
 
   made-under : (c : ℕ) (t : Tree K) → All (Under k) (made c t)
   unfolding made
@@ -239,7 +239,7 @@ module _ {K : Type 0} (k w : ℕ) (c : Commit) (fresh : K) (t : Tree K) (s : Sou
       let u = readied c.change fresh t in
       let few = posted-few c.committer s in
       and_then k _ _ tt (and_then k _ _ tt (and_then k _ _ tt (and_then k _ _ tt
-      (and_then k (unseal (posted c.committer u) init_slot epoch_slot) _ (omega arith)
+      (and_then k _ _ (omega arith)
       (and_then k _ _ tt
       (both-lists k (followed w c.committer u) _ (followed-under k w c.committer s e)
       (and_then k _ _ tt (renewed-under k))))))))
