@@ -1,4 +1,6 @@
 // The orders that a member gives its vault, for one message after the other.
+#![tactic(auto)]
+
 use anyhow::anyhow;
 use session::{reply, start};
 use std::io::Write;

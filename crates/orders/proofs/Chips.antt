@@ -12,12 +12,12 @@ use Rattle.theory.proofs.Wellformed.{well-formed-kept}
 use Rattle.ratchet_tree.specs.declared.member.PublicKey.{PublicKey}
 use Rattle.messages.specs.Letters.{letter_change, letter_of}
 use Rattle.messages.specs.Take.{change_asked, fresh_in}
-use Rattle.vault_theory.specs.AtHalves.{map_sealed, map_vault}
+use Rattle.vault_theory.specs.AtHalves.{map_sealed}
 use Rattle.vault_theory.specs.Layout.{layout}
 use Rattle.vault_theory.specs.Order.{Order, draw, derive, mix, seal, unseal, forget, publish, map_order}
 use Rattle.vault_theory.specs.Orders.{orders_of}
 use Rattle.vault_theory.specs.Slots.{boxes_in, carried_out, chip_with, concerns, draws_of, given_by, is_newcomer, next, orders_in, seen}
-use Rattle.vault_theory.specs.Vault.{Halves, Sealed, Vault, run, sealed_box}
+use Rattle.vault_theory.specs.Vault.{Halves, run, sealed_box}
 use Rattle.vault_theory.proofs.AtHalves.{run-at-halves}
 use Rattle.vault_theory.proofs.Kept.{slots_kept}
 use Rattle.vault_theory.proofs.OrdersNatural.{orders-map}

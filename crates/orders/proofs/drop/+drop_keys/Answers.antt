@@ -1,4 +1,4 @@
-use Rattle.std.proofs.Common.{◌<◌, ◌++◌, map, vec_items, sym, refl, ap, ◌∙◌, rules}
+use Rattle.std.proofs.Common.{◌<◌, map, vec_items, sym, refl, ◌∙◌, rules}
 use Rattle.theory.specs.Tree.{seated}
 use Rattle.vault_theory.specs.Orders.{dropped}
 use Rattle.ratchet_tree.proofs.Appending.{appends-as, appends-two}

@@ -1,4 +1,4 @@
-use Rattle.std.proofs.Common.{◌<◌, [], ◌∷◌, ◌++◌, map, vec_items, sym, refl, ap, ◌∙◌, arith, rules}
+use Rattle.std.proofs.Common.{◌<◌, [], ◌∷◌, ◌++◌, map, vec_items, sym, arith, rules}
 use Rattle.theory.specs.Path.{level_after}
 use Rattle.theory.specs.Tree.{resolution, seated}
 use Rattle.vault_theory.specs.Numbers.{levels}
