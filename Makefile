@@ -5,11 +5,11 @@ EXAMPLE ?= examples/taxi.txt
 
 demo:
 	@echo "proving and building station (some minutes the first time; the log is target/demo.log) .."
-	@mkdir -p target && rt check station > target/demo.log 2>&1 || { cat target/demo.log; exit 1; }
+	@mkdir -p target && (cd crates/station && rt run -- --help) > target/demo.log 2>&1 || { cat target/demo.log; exit 1; }
 	@echo "$(EXAMPLE), line by line: what is asked, then what station prints"
 	@echo "  (epoch, boxes, node keys, and the tree: . blank, a member, * a parent with a key)"
 	@echo
-	@examples/show target/bin/station $(EXAMPLE)
+	@examples/show crates/station/out/station $(EXAMPLE)
 
 test:
 	@bash .ci/run

@@ -1,10 +1,10 @@
 // Plays a script of commits and prints the group's tree after each.
 #![tactic(auto)]
 
-use anyhow::anyhow;
 use playback::play;
 use std::env;
 use std::io::{Read, Write};
+use std::process::ExitCode;
 
 const HELP: &str = "usage: station < SCRIPT
 
@@ -28,7 +28,7 @@ A refusal changes nothing, and the play goes on; it is an answer, so the status
 is 0. A wrong call, and an argument that is not UTF-8, end with status 1.
 ";
 
-fn run(rt: &HostRuntime) -> anyhow::Result<()> {
+fn run(rt: &HostRuntime) -> anyhow::Result<ExitCode> {
     let mut args = env::args(rt)?;
     let _program = args.next();
     if let Some(arg) = args.next() {
@@ -36,19 +36,19 @@ fn run(rt: &HostRuntime) -> anyhow::Result<()> {
             rt.eprintln(
                 "station: takes no argument but --help; the script comes on standard input",
             )?;
-            return Err(anyhow!("wrong call"));
+            return Ok(ExitCode::FAILURE);
         }
         rt.print(HELP)?;
-        return Ok(());
+        return Ok(ExitCode::SUCCESS);
     }
     let heap = rt.alloc();
     let mut input = Vec::new(heap);
     rt.stdin().read_to_end(&mut input)?;
     let output = play(heap, &input)?;
     rt.stdout().write_all(&output)?;
-    Ok(())
+    Ok(ExitCode::SUCCESS)
 }
 
-fn main(rt: HostRuntime) -> anyhow::Result<()> {
+fn main(rt: HostRuntime) -> anyhow::Result<ExitCode> {
     run(&rt)
 }
