@@ -1,7 +1,10 @@
 // The orders that a member gives its vault, for one message after the other.
+#![tactic(auto)]
+
 use anyhow::anyhow;
 use session::{reply, start};
 use std::io::Write;
+use std::process::ExitCode;
 use std::{env, fs};
 use tree_files::FileError;
 
@@ -32,13 +35,13 @@ status is 0. A file that cannot be read, a wrong call, and an argument that is
 not UTF-8, end with status 1 and print no order.
 ";
 
-// The whole of a file; a line on standard error where it cannot be read.
-fn read_file(rt: &HostRuntime, path: &str) -> anyhow::Result<Vec<u8>> {
+// The whole of a file; none, and a line on standard error, where it cannot be read.
+fn read_file(rt: &HostRuntime, path: &str) -> anyhow::Result<Option<Vec<u8>>> {
     match fs::read(rt, path) {
-        Ok(bytes) => Ok(bytes),
+        Ok(bytes) => Ok(Some(bytes)),
         Err(error) => {
             eprintln!(rt; "handset: {path}: {error}")?;
-            Err(anyhow!("a file cannot be read"))
+            Ok(None)
         }
     }
 }
@@ -66,12 +69,12 @@ fn answer(
     Ok(out)
 }
 
-fn wrong_call(rt: &HostRuntime) -> anyhow::Result<()> {
+fn wrong_call(rt: &HostRuntime) -> anyhow::Result<ExitCode> {
     rt.eprintln("handset: takes MEMBER TREE MESSAGE..; see handset --help")?;
-    Err(anyhow!("wrong call"))
+    Ok(ExitCode::FAILURE)
 }
 
-fn run(rt: &HostRuntime) -> anyhow::Result<()> {
+fn run(rt: &HostRuntime) -> anyhow::Result<ExitCode> {
     let mut args = env::args(rt)?;
     let _program = args.next();
     let Some(member) = args.next() else {
@@ -82,18 +85,23 @@ fn run(rt: &HostRuntime) -> anyhow::Result<()> {
             return wrong_call(rt);
         }
         rt.print(HELP)?;
-        return Ok(());
+        return Ok(ExitCode::SUCCESS);
     };
-    let tree = read_file(rt, path.as_str())?;
+    let Some(tree) = read_file(rt, path.as_str())? else {
+        return Ok(ExitCode::FAILURE);
+    };
     let mut messages = Vec::new(rt.alloc());
     for path in args {
-        messages.push(read_file(rt, path.as_str())?)?;
+        let Some(message) = read_file(rt, path.as_str())? else {
+            return Ok(ExitCode::FAILURE);
+        };
+        messages.push(message)?;
     }
     let output = answer(rt, member.as_str(), &tree, &messages)?;
     rt.stdout().write_all(&output)?;
-    Ok(())
+    Ok(ExitCode::SUCCESS)
 }
 
-fn main(rt: HostRuntime) -> anyhow::Result<()> {
+fn main(rt: HostRuntime) -> anyhow::Result<ExitCode> {
     run(&rt)
 }

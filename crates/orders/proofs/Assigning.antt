@@ -1,21 +1,20 @@
 -- The orders of a role, put together from its parts.
 -- Assumes nothing.
-use Rattle.std.proofs.Common.{◌≡◌, ℕ, true, false, cond, eqb, List, [], ◌∷◌, ◌++◌, map, sym, refl, ap, ◌∙◌, ap₂}
+use Rattle.std.proofs.Common.{◌≡◌, ℕ, eqb, List, [], ◌∷◌, ◌++◌, map, sym, refl, ap, ◌∙◌, ap₂}
 use Rattle.std.proofs.lemmas.List.{map-append}
 use Rattle.std.proofs.lemmas.Bool.{cond-true, eq-eqb}
-use Rattle.theory.specs.Group.{Change, renew, remove, add, readied}
+use Rattle.theory.specs.Group.{Change, remove}
 use Rattle.theory.specs.Tree.{Tree}
 use Rattle.vault_theory.specs.Numbers.{levels, posted}
-use Rattle.vault_theory.specs.Order.{Order, draw, forget, publish, seal, unseal, epoch_slot, init_slot, slot_of_key, slot_of_path}
-use Rattle.vault_theory.specs.Orders.{committing, dropped_for, followed, leaving, made, orders_of, renewed, turned, welcomed}
+use Rattle.vault_theory.specs.Order.{draw, forget, publish, seal, unseal, epoch_slot, init_slot, slot_of_key, slot_of_path}
+use Rattle.vault_theory.specs.Orders.{dropped_for, followed, leaving, made, renewed, turned}
 use Rattle.ratchet_tree.specs.declared.member.MemberId.{MemberId}
-use Rattle.ratchet_tree.specs.declared.member.PublicKey.{PublicKey}
 use Rattle.commits.specs.Counts.{capped}
-use Rattle.messages.specs.Take.{change_asked, fresh_in}
+use Rattle.messages.specs.Take.{change_asked}
 use Rattle.messages.specs.declared.message.MessageChange.{MessageChange}
-use Rattle.messages.specs.declared.message.MessageChange.TheVariants.{Renew, Remove, Add}
+use Rattle.messages.specs.declared.message.MessageChange.TheVariants.{Remove}
 use Rattle.vault_theory.specs.Capped.{cap_order}
-use Rattle.orders.specs.Roles.{committing_on, init_in, init_keys, orders_on, staying_on, taking_on, welcomed_on}
+use Rattle.orders.specs.Roles.{committing_on, orders_on, staying_on, taking_on, welcomed_on}
 use Rattle.orders.proofs.Capping.{capped-then, plain-committing, plain-dropped-for, plain-leaving}
 
 module _ {K : Type 0} (w c n : ℕ) (u : Tree K) (level : n ≡ levels c u) where

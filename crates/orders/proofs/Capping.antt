@@ -1,6 +1,6 @@
 -- The largest box number changes nothing in orders that open no box.
 -- Assumes nothing.
-use Rattle.std.proofs.Common.{◌≡◌, ℕ, suc, Bool, true, false, cond, ◌||◌, List, [], ◌∷◌, ◌++◌, map, sym, refl, ap, ◌∙◌, ap₂}
+use Rattle.std.proofs.Common.{◌≡◌, ℕ, suc, Bool, true, false, cond, ◌||◌, List, [], ◌∷◌, ◌++◌, map, refl, ap, ◌∙◌, ap₂}
 use Rattle.std.proofs.lemmas.List.{map-append}
 use Rattle.theory.specs.Group.{Change, renew, remove, add}
 use Rattle.theory.specs.Tree.{Tree, leaf, node, Parent, height, resolution, seated}

@@ -12,12 +12,12 @@ use Rattle.theory.proofs.Wellformed.{well-formed-kept}
 use Rattle.ratchet_tree.specs.declared.member.PublicKey.{PublicKey}
 use Rattle.messages.specs.Letters.{letter_change, letter_of}
 use Rattle.messages.specs.Take.{change_asked, fresh_in}
-use Rattle.vault_theory.specs.AtHalves.{map_sealed, map_vault}
+use Rattle.vault_theory.specs.AtHalves.{map_sealed}
 use Rattle.vault_theory.specs.Layout.{layout}
 use Rattle.vault_theory.specs.Order.{Order, draw, derive, mix, seal, unseal, forget, publish, map_order}
 use Rattle.vault_theory.specs.Orders.{orders_of}
 use Rattle.vault_theory.specs.Slots.{boxes_in, carried_out, chip_with, concerns, draws_of, given_by, is_newcomer, next, orders_in, seen}
-use Rattle.vault_theory.specs.Vault.{Halves, Sealed, Vault, run, sealed_box}
+use Rattle.vault_theory.specs.Vault.{Halves, run, sealed_box}
 use Rattle.vault_theory.proofs.AtHalves.{run-at-halves}
 use Rattle.vault_theory.proofs.Kept.{slots_kept}
 use Rattle.vault_theory.proofs.OrdersNatural.{orders-map}
@@ -29,7 +29,7 @@ use Rattle.messages.specs.Letters.{Concerns, Stands, TookLetter}
 use Rattle.messages.specs.Message.{Message}
 use Rattle.messages.specs.Take.{Taken, commit_asked, fresh_key}
 use Rattle.messages.specs.declared.handset.Handset.{Handset}
-use Rattle.messages.proofs.Delivery.{letters-deliver}
+use Rattle.messages.proofs.Delivery.{letters-arrive, letters-deliver}
 use Rattle.messages.proofs.Reading.{one-reading}
 use Rattle.orders.specs.Answered.{orders_for}
 use Rattle.orders.specs.Order.{order_of}
@@ -143,8 +143,9 @@ pub chips-served : ChipsServed
 chips-served keys alike halves bytes boxed f fine commits n ok h after at who (Ok v) r =
     let w = h.member.0 in
     let l = letter_of keys.half bytes f commits n in
-    let d = letters-deliver keys.half bytes halves boxed f fine commits n ok in
-    let same : r.message ≡ l = sym (one-reading l r.message d.fits r.fits r.bytes) in
+    let d = letters-deliver keys.half bytes halves boxed f commits n ok in
+    let arriving = letters-arrive keys.half bytes halves boxed f fine commits n ok in
+    let same : r.message ≡ l = sym (one-reading l r.message arriving.fits r.fits r.bytes) in
     let taken : Taken h l after = subst (λ (m : Message). Taken h m after) same r.taken in
     let orders : map order_of (vec_items v) ≡ map (map_order keys.half) (orders_in w (commits n) (group f commits n)) =
     r.orders ∙ ap (λ (m : Message). map cap_order (orders_for h m)) same ∙ orders-there keys.half bytes f commits n ok h at in (
@@ -153,6 +154,6 @@ chips-served keys alike halves bytes boxed f fine commits n ok h after at who (O
     )
 chips-served keys alike halves bytes boxed f fine commits n ok h after at who (Err e) r =
     let l = letter_of keys.half bytes f commits n in
-    let d = letters-deliver keys.half bytes halves boxed f fine commits n ok in
+    let arriving = letters-arrive keys.half bytes halves boxed f fine commits n ok in
     not-refused l (Stands keys.half (group f commits (suc n))) h after e r.0
-    (d.arrives h after (Err e) at (concerned h.member.0 (commits n) (group f commits n) who) r)
+    (arriving.arrives h after (Err e) at (concerned h.member.0 (commits n) (group f commits n) who) r)

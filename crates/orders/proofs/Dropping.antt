@@ -1,10 +1,9 @@
 -- What a removal makes a member forget, one parent more.
 -- Assumes nothing.
-use Rattle.std.proofs.Common.{◌≡◌, ℕ, suc, true, false, cond, ◌||◌, List, [], ◌∷◌, ◌++◌, sym, refl, ap, ◌∙◌, ap₂}
+use Rattle.std.proofs.Common.{◌≡◌, ℕ, suc, true, false, cond, ◌||◌, [], ◌++◌, sym, ap, ◌∙◌, ap₂}
 use Rattle.std.proofs.lemmas.List.{append-nil}
 use Rattle.std.proofs.lemmas.Bool.{cond-true, cond-false}
 use Rattle.theory.specs.Tree.{Tree, leaf, node, Leaf, Parent, height, seated}
-use Rattle.vault_theory.specs.Order.{Order}
 use Rattle.vault_theory.specs.Orders.{dropped, held_forgotten}
 use Rattle.orders.proofs.Halves.{one_side}
 

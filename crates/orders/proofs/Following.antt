@@ -1,6 +1,6 @@
 -- A path that is followed, one parent more.
 -- Assumes nothing.
-use Rattle.std.proofs.Common.{◌≡◌, ℕ, suc, ◌+◌, true, false, cond, List, [], ◌∷◌, ◌++◌, map, sym, refl, ap, ◌∙◌, ap₂, arith}
+use Rattle.std.proofs.Common.{◌≡◌, ℕ, suc, ◌+◌, true, false, cond, List, [], ◌∷◌, ◌++◌, map, sym, ap, ◌∙◌, ap₂, arith}
 use Rattle.std.proofs.lemmas.Bool.{cond-true, cond-false}
 use Rattle.theory.specs.Tree.{Tree, leaf, node, Leaf, Parent, height, resolution, seated}
 use Rattle.vault_theory.specs.Order.{Order, unseal, slot_of_key, slot_of_path}

@@ -1,6 +1,6 @@
 -- Orders appended one after the other.
 -- Assumes nothing.
-use Rattle.std.proofs.Common.{◌≡◌, ℕ, true, cond, List, [], ◌++◌, map, is_ok, Ok, Err, Result, sym, refl, ap, ◌∙◌, ap₂, append_assoc}
+use Rattle.std.proofs.Common.{◌≡◌, ℕ, cond, List, [], ◌++◌, map, is_ok, Ok, Err, Result, sym, ap, ◌∙◌, ap₂, append_assoc}
 use Rattle.std.proofs.lemmas.List.{append-nil, map-append}
 use Rattle.std.proofs.lemmas.Bool.{cond-true}
 use Rattle.ratchet_tree.specs.declared.member.PublicKey.{PublicKey}

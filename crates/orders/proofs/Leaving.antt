@@ -1,8 +1,8 @@
 -- What a member that is removed forgets, one parent more.
 -- Assumes nothing.
-use Rattle.std.proofs.Common.{◌≡◌, ℕ, suc, cond, List, [], ◌∷◌, ◌++◌, sym, refl, ap, ◌∙◌, ap₂}
+use Rattle.std.proofs.Common.{◌≡◌, ℕ, suc, cond, [], ◌∷◌, ◌++◌, sym, ap, ◌∙◌, ap₂}
 use Rattle.theory.specs.Tree.{Tree, leaf, node, Leaf, Parent, height, seated}
-use Rattle.vault_theory.specs.Order.{Order, forget, slot_of_key}
+use Rattle.vault_theory.specs.Order.{forget, slot_of_key}
 use Rattle.vault_theory.specs.Orders.{abandoned, held_forgotten}
 use Rattle.orders.proofs.Halves.{one_side}
 

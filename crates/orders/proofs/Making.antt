@@ -1,6 +1,6 @@
 -- A path that is made, one parent more.
 -- Assumes nothing.
-use Rattle.std.proofs.Common.{◌≡◌, ℕ, suc, ◌+◌, ◌<◌, true, false, cond, List, [], ◌∷◌, ◌++◌, map, length, get_or, take, sym, refl, ap, ◌∙◌, ap₂, append_assoc, add-one}
+use Rattle.std.proofs.Common.{◌≡◌, ℕ, suc, ◌+◌, ◌<◌, cond, List, [], ◌∷◌, ◌++◌, map, length, get_or, take, sym, refl, ap, ◌∙◌, ap₂, append_assoc, add-one}
 use Rattle.std.proofs.lemmas.List.{map-append, take_more}
 use Rattle.theory.specs.Path.{level_after}
 use Rattle.theory.specs.Tree.{Tree, leaf, node, Leaf, Parent, height, resolution, seated}

@@ -1,6 +1,6 @@
 -- Which key of a resolution reaches a member: looked for among the unmerged, and counted.
 -- Assumes nothing.
-use Rattle.std.proofs.Common.{◌≡◌, ℕ, zero, suc, ◌+◌, ◌<◌, true, false, cond, eqb, List, [], ◌∷◌, length, get_or, sym, refl, ap, ◌∙◌, add-one, arith}
+use Rattle.std.proofs.Common.{◌≡◌, ℕ, zero, suc, ◌+◌, ◌<◌, true, false, cond, eqb, List, [], ◌∷◌, length, get_or, sym, ap, ◌∙◌, add-one, arith}
 use Rattle.std.proofs.lemmas.Bool.{cond-true, cond-false, eq-eqb, ne_eqb}
 use Rattle.theory.specs.Held.{is_unmerged}
 use Rattle.theory.specs.Tree.{Tree, leaf, node, Leaf, Parent, blank_parent, keyed, seated, height, resolution}
@@ -8,7 +8,6 @@ use Rattle.vault_theory.specs.Numbers.{before, number_of_key, height_of_key}
 use Rattle.ratchet_tree.specs.Nodes.{numbers}
 use Rattle.ratchet_tree.specs.declared.member.MemberId.{MemberId}
 use Rattle.ratchet_tree.proofs.Appending.{among-at, among_none}
-use Rattle.commits.specs.Counts.{capped}
 
 -- the first place at which w stands
 before_at : (w : ℕ) (ms : List MemberId) (i : ℕ) (d : MemberId) → i < length ms → ((k : ℕ) → k < i → (get_or ms k d).0 ≡ w → ⊥) → (get_or ms i d).0 ≡ w →

@@ -1,6 +1,6 @@
 -- A commit that is not refused: its committer is seated where the path is laid.
 -- Assumes nothing.
-use Rattle.std.proofs.Common.{◌≡◌, ℕ, Bool, true, false, not, T, eqb, leb, is_some, Some, None, Option, sym, refl, ap, ◌∙◌, arith}
+use Rattle.std.proofs.Common.{◌≡◌, ℕ, Bool, true, false, not, T, eqb, leb, is_some, Some, None, Option, refl, ap, ◌∙◌, arith}
 use Rattle.theory.specs.Group.{Commit, first_of, readied, refusal}
 use Rattle.theory.specs.Limits.{last_epoch}
 use Rattle.theory.specs.Tree.{Tree, seated}
@@ -9,7 +9,7 @@ use Rattle.theory.proofs.Tests.{is_true}
 use Rattle.theory.proofs.Wellformed.{permitted}
 use Rattle.ratchet_tree.specs.declared.member.PublicKey.{PublicKey}
 use Rattle.messages.specs.Message.{Message}
-use Rattle.messages.specs.Take.{commit_asked, fresh_key, is_stranger, message_refusal, or_next, right_counts}
+use Rattle.messages.specs.Take.{commit_asked, is_stranger, message_refusal, or_next, right_counts}
 
 behind-first : (b : Bool) (n : ℕ) (o : Option ℕ) → first_of b n o ≡ None → o ≡ None
 behind-first true n o e = let z : ◌≡◌ {A = ℕ} 0 1 = cc in absurd (omega arith)

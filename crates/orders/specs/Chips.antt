@@ -4,7 +4,7 @@
 -- Assumes nothing.
 use Rattle.std.specs.Prelude.{◌≡◌, ℕ, suc, ◌<◌, cond, T, List, [], map, length, Some, Ok, Err, vec_items, Result, Vec, ◌==◌}
 use Rattle.std.specs.declared.alloc.Global.{Global}
-use Rattle.theory.specs.Group.{Commit, Group, group, allowed, message, path_at}
+use Rattle.theory.specs.Group.{Commit, group, allowed, message, path_at}
 use Rattle.theory.specs.Limits.{nobody}
 use Rattle.theory.specs.Secrets.{Secret, Box}
 use Rattle.wire.specs.Bytes.{Half}

@@ -1,4 +1,6 @@
 // Orders to the vault: what a member's vault is told for each commit.
+#![tactic(auto)]
+
 mod climb;
 mod committer;
 mod drop;

@@ -1,7 +1,7 @@
 -- What a handset starts from.
 -- `Started`: the handset of a member's number and a tree file, or the refusal.
 -- Assumes nothing.
-use Rattle.std.specs.Prelude.{◌≡◌, ℕ, ◌⊎◌, List, Some, None, Ok, Err, Option, Result}
+use Rattle.std.specs.Prelude.{◌≡◌, ℕ, ◌⊎◌, List, Some, None, Ok, Err, Result}
 use Rattle.commits.specs.declared.refusal.Refusal.TheVariants.{Malformed}
 use Rattle.messages.specs.declared.handset.Handset.{Handset}
 use Rattle.scripts.specs.Decimal.{ReadsNumber}

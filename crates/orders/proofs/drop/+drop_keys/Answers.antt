@@ -1,4 +1,4 @@
-use Rattle.std.proofs.Common.{◌<◌, ◌++◌, map, vec_items, sym, refl, ap, ◌∙◌, rules}
+use Rattle.std.proofs.Common.{◌<◌, map, vec_items, sym, refl, ◌∙◌, rules}
 use Rattle.theory.specs.Tree.{seated}
 use Rattle.vault_theory.specs.Orders.{dropped}
 use Rattle.ratchet_tree.proofs.Appending.{appends-as, appends-two}
@@ -24,11 +24,11 @@ returns-then-not-is_seated t c =
     appends-as
     (dropped-elsewhere c.args.member.0 c.args.removed.0 c.args.part.height (part_tree c.args.part) (parent_of c.in-Parent.node.now) (part_tree c.in-Parent.left) (part_tree c.in-Parent.right) (part_tree c.sides_of-sides.result.own) c.in-Parent.ensures.tree c.sides_of-sides.ensures.own (parent-height c.args.part c.in-Parent.left c.in-Parent.ensures.left)
     (sym c.is_seated.ensures ∙ c.if-not-is_seated.true))
-    c.in_ok-drop_keys.ensures
+    c.in_ok-drop_keys-in-Parent.ensures
 
 pub returns-else-not-is_seated : goal.returns-else-not-is_seated
 returns-else-not-is_seated t c =
     appends-as
     (dropped-above c.args.member.0 c.args.removed.0 c.args.part.height (part_tree c.args.part) (parent_of c.in-Parent.node.now) (part_tree c.in-Parent.left) (part_tree c.in-Parent.right) (part_tree c.sides_of-sides.result.own) c.in-Parent.ensures.tree c.sides_of-sides.ensures.own (parent-height c.args.part c.in-Parent.left c.in-Parent.ensures.left)
     (sym c.is_seated.ensures ∙ c.if-not-is_seated.false))
-    (appends-two (map order_of (vec_items c.args.out.now)) (dropped c.args.member.0 c.args.removed.0 (part_tree c.sides_of-sides.result.own)) (c.in_ok-drop_keys.ensures.items refl) c.forget_held.ensures)
+    (appends-two (map order_of (vec_items c.args.out.now)) (dropped c.args.member.0 c.args.removed.0 (part_tree c.sides_of-sides.result.own)) (c.in_ok-drop_keys-in-Parent.ensures.items refl) c.forget_held.ensures)

@@ -1,4 +1,4 @@
-use Rattle.std.proofs.Common.{◌<◌, [], ◌∷◌, ◌++◌, map, vec_items, sym, refl, ap, ◌∙◌, arith, rules}
+use Rattle.std.proofs.Common.{◌<◌, [], ◌∷◌, ◌++◌, map, vec_items, sym, arith, rules}
 use Rattle.theory.specs.Path.{level_after}
 use Rattle.theory.specs.Tree.{resolution, seated}
 use Rattle.vault_theory.specs.Numbers.{levels}
@@ -20,10 +20,10 @@ follow-requires t c =
     )
 
 pub pass-requires : goal.pass-requires
-pass-requires t c = (omega (arith, c.in_ok-level.ensures.level, levels-low c.args.committer.0 c.sides_of-sides.result.own), c.args.part.shallow)
+pass-requires t c = (omega (arith, c.in_ok-level-in-Parent.ensures.level, levels-low c.args.committer.0 c.sides_of-sides.result.own), c.args.part.shallow)
 
 pub pass-requires-in-Parent : goal.pass-requires-in-Parent
-pass-requires-in-Parent t c = (omega (arith, c.in_ok-level-2.ensures.level, levels-low c.args.committer.0 c.sides_of-sides.result.own), c.args.part.shallow)
+pass-requires-in-Parent t c = (omega (arith, c.in_ok-level-in-Parent-2.ensures.level, levels-low c.args.committer.0 c.sides_of-sides.result.own), c.args.part.shallow)
 
 pub returns-in-Leaf : goal.returns-in-Leaf
 returns-in-Leaf t c =
@@ -32,22 +32,22 @@ returns-in-Leaf t c =
 
 pub returns-then-is_seated : goal.returns-then-is_seated
 returns-then-is_seated t c =
-    gives-above (vec_items c.args.out.now) _ _ (levels c.args.committer.0 (part_tree c.sides_of-sides.result.own)) c.in_ok-level.level
+    gives-above (vec_items c.args.out.now) _ _ (levels c.args.committer.0 (part_tree c.sides_of-sides.result.own)) c.in_ok-level-in-Parent.level
     (map cap_order (followed c.args.member.0 c.args.committer.0 (part_tree c.sides_of-sides.result.own)))
     (λ i. level_after i (resolution (part_tree c.sides_of-sides.result.other)))
     (λ i. held_forgotten c.args.member.0 (parent_of c.in-Parent.node.now) c.args.part.height ++ climbed i c.args.part.height (resolution (part_tree c.sides_of-sides.result.other)))
-    _ _ c.pass.result c.in_ok-level.ensures c.pass.ensures
+    _ _ c.pass.result c.in_ok-level-in-Parent.ensures c.pass.ensures
     (sym (levels-above c.args.committer.0 (part_tree c.args.part) (parent_of c.in-Parent.node.now) (part_tree c.in-Parent.left) (part_tree c.in-Parent.right) (part_tree c.sides_of-sides.result.own) (part_tree c.sides_of-sides.result.other) c.in-Parent.ensures.tree c.sides_of-sides.ensures.own c.sides_of-sides.ensures.other c.requires))
     (followed-inside c.args.member.0 c.args.committer.0 c.args.part.height (part_tree c.args.part) (parent_of c.in-Parent.node.now) (part_tree c.in-Parent.left) (part_tree c.in-Parent.right) (part_tree c.sides_of-sides.result.own) (part_tree c.sides_of-sides.result.other) c.in-Parent.ensures.tree c.sides_of-sides.ensures.own c.sides_of-sides.ensures.other
     (parent-height c.args.part c.in-Parent.left c.in-Parent.ensures.left) (sym c.if-is_seated.ensures))
 
-pub returns-in_ok-level-2 : goal.returns-in_ok-level-2
-returns-in_ok-level-2 t c =
-    gives-above (vec_items c.args.out.now) _ _ (levels c.args.committer.0 (part_tree c.sides_of-sides.result.own)) c.in_ok-level-2.level
+pub returns-in_ok-level-in-Parent-2 : goal.returns-in_ok-level-in-Parent-2
+returns-in_ok-level-in-Parent-2 t c =
+    gives-above (vec_items c.args.out.now) _ _ (levels c.args.committer.0 (part_tree c.sides_of-sides.result.own)) c.in_ok-level-in-Parent-2.level
     (map cap_order (opened c.args.member.0 c.args.committer.0 (part_tree c.sides_of-sides.result.own) (part_tree c.sides_of-sides.result.other) ∷ []))
     (λ i. level_after i (resolution (part_tree c.sides_of-sides.result.other)))
     (λ i. held_forgotten c.args.member.0 (parent_of c.in-Parent.node.now) c.args.part.height ++ climbed i c.args.part.height (resolution (part_tree c.sides_of-sides.result.other)))
-    _ _ c.pass-in-Parent.result c.in_ok-level-2.ensures c.pass-in-Parent.ensures
+    _ _ c.pass-in-Parent.result c.in_ok-level-in-Parent-2.ensures c.pass-in-Parent.ensures
     (sym (levels-above c.args.committer.0 (part_tree c.args.part) (parent_of c.in-Parent.node.now) (part_tree c.in-Parent.left) (part_tree c.in-Parent.right) (part_tree c.sides_of-sides.result.own) (part_tree c.sides_of-sides.result.other) c.in-Parent.ensures.tree c.sides_of-sides.ensures.own c.sides_of-sides.ensures.other c.requires))
     (followed-opened c.args.member.0 c.args.committer.0 c.args.part.height (part_tree c.args.part) (parent_of c.in-Parent.node.now) (part_tree c.in-Parent.left) (part_tree c.in-Parent.right) (part_tree c.sides_of-sides.result.own) (part_tree c.sides_of-sides.result.other) c.in-Parent.ensures.tree c.sides_of-sides.ensures.own c.sides_of-sides.ensures.other
     (parent-height c.args.part c.in-Parent.left c.in-Parent.ensures.left) (sym c.if-is_seated.ensures))

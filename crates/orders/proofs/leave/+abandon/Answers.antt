@@ -1,4 +1,4 @@
-use Rattle.std.proofs.Common.{◌<◌, ◌++◌, map, vec_items, sym, refl, ap, ◌∙◌, rules}
+use Rattle.std.proofs.Common.{◌<◌, map, vec_items, refl, rules}
 use Rattle.theory.specs.Tree.{seated}
 use Rattle.vault_theory.specs.Orders.{abandoned}
 use Rattle.ratchet_tree.proofs.Appending.{appends-as, appends-two}
@@ -18,8 +18,8 @@ abandon-requires t c =
 pub returns-in-Leaf : goal.returns-in-Leaf
 returns-in-Leaf t c = appends-as (abandoned-leaf c.args.member.0 (part_tree c.args.part) (leaf_of c.in-Leaf.field-0.now) c.in-Leaf.ensures.1) c.give.ensures
 
-pub returns-in_ok-abandon : goal.returns-in_ok-abandon
-returns-in_ok-abandon t c =
+pub returns-in_ok-abandon-in-Parent : goal.returns-in_ok-abandon-in-Parent
+returns-in_ok-abandon-in-Parent t c =
     appends-as
     (abandoned-above c.args.member.0 c.args.part.height (part_tree c.args.part) (parent_of c.in-Parent.node.now) (part_tree c.in-Parent.left) (part_tree c.in-Parent.right) (part_tree c.sides_of-sides.result.own) c.in-Parent.ensures.tree c.sides_of-sides.ensures.own (parent-height c.args.part c.in-Parent.left c.in-Parent.ensures.left))
-    (appends-two (map order_of (vec_items c.args.out.now)) (abandoned c.args.member.0 (part_tree c.sides_of-sides.result.own)) (c.in_ok-abandon.ensures.items refl) c.forget_held.ensures)
+    (appends-two (map order_of (vec_items c.args.out.now)) (abandoned c.args.member.0 (part_tree c.sides_of-sides.result.own)) (c.in_ok-abandon-in-Parent.ensures.items refl) c.forget_held.ensures)

@@ -19,20 +19,20 @@ make-requires t c =
     )
 
 pub lay-requires : goal.lay-requires
-lay-requires t c = (omega (arith, c.in_ok-level.ensures.level, levels-low c.args.committer.0 c.sides_of-sides.result.own), c.args.part.shallow)
+lay-requires t c = (omega (arith, c.in_ok-level-in-Parent.ensures.level, levels-low c.args.committer.0 c.sides_of-sides.result.own), c.args.part.shallow)
 
 pub returns-in-Leaf : goal.returns-in-Leaf
 returns-in-Leaf t c =
     let is = made-leaf c.args.committer.0 (part_tree c.args.part) (leaf_of c.in-Leaf.field-0.now) c.in-Leaf.ensures.1 in
     gives_none (vec_items c.args.out.now) is.0 is.1
 
-pub returns-in_ok-level : goal.returns-in_ok-level
-returns-in_ok-level t c =
-    gives-above (vec_items c.args.out.now) _ _ (levels c.args.committer.0 (part_tree c.sides_of-sides.result.own)) c.in_ok-level.level
+pub returns-in_ok-level-in-Parent : goal.returns-in_ok-level-in-Parent
+returns-in_ok-level-in-Parent t c =
+    gives-above (vec_items c.args.out.now) _ _ (levels c.args.committer.0 (part_tree c.sides_of-sides.result.own)) c.in_ok-level-in-Parent.level
     (made c.args.committer.0 (part_tree c.sides_of-sides.result.own))
     (λ i. level_after i (resolution (part_tree c.sides_of-sides.result.other)))
     (λ i. held_forgotten c.args.committer.0 (parent_of c.in-Parent.node.now) c.args.part.height ++ sealed_up i c.args.part.height (resolution (part_tree c.sides_of-sides.result.other)))
-    _ _ c.lay.result c.in_ok-level.ensures c.lay.ensures
+    _ _ c.lay.result c.in_ok-level-in-Parent.ensures c.lay.ensures
     (sym (levels-above c.args.committer.0 (part_tree c.args.part) (parent_of c.in-Parent.node.now) (part_tree c.in-Parent.left) (part_tree c.in-Parent.right) (part_tree c.sides_of-sides.result.own) (part_tree c.sides_of-sides.result.other) c.in-Parent.ensures.tree c.sides_of-sides.ensures.own c.sides_of-sides.ensures.other c.requires))
     (made-above c.args.committer.0 c.args.part.height (part_tree c.args.part) (parent_of c.in-Parent.node.now) (part_tree c.in-Parent.left) (part_tree c.in-Parent.right) (part_tree c.sides_of-sides.result.own) (part_tree c.sides_of-sides.result.other) c.in-Parent.ensures.tree c.sides_of-sides.ensures.own c.sides_of-sides.ensures.other
     (parent-height c.args.part c.in-Parent.left c.in-Parent.ensures.left))

@@ -1,4 +1,4 @@
-use Rattle.std.proofs.Common.{sym, ap, ◌∙◌, arith}
+use Rattle.std.proofs.Common.{sym, ◌∙◌, arith}
 use Rattle.ratchet_tree.specs.Nodes.{leaf_of, numbers, parent_of}
 use Rattle.ratchet_tree.specs.Parts.{part_tree}
 use Rattle.orders.proofs.Halves.{parent-height}

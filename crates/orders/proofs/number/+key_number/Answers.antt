@@ -1,7 +1,4 @@
-use Rattle.std.proofs.Common.{length, sym, ap, ◌∙◌, arith}
-use Rattle.std.proofs.lemmas.Bool.{cond-true, cond-false}
-use Rattle.theory.specs.Tree.{resolution, seated}
-use Rattle.vault_theory.specs.Numbers.{number_of_key}
+use Rattle.std.proofs.Common.{sym, ap, ◌∙◌, arith}
 use Rattle.ratchet_tree.specs.Nodes.{leaf_of, numbers, parent_of}
 use Rattle.ratchet_tree.specs.Parts.{part_tree}
 use Rattle.commits.specs.Counts.{capped}

@@ -1,4 +1,4 @@
-use Rattle.std.proofs.Common.{◌≡◌, ℕ, [], ◌∷◌, ◌++◌, vec_items, ap, rules}
+use Rattle.std.proofs.Common.{◌≡◌, vec_items, ap, rules}
 use Rattle.commits.specs.Refusals.{number_of}
 use Rattle.ratchet_tree.proofs.Appending.{appends-as, appends-two}
 use Rattle.scripts.specs.Decimal.{decimal}

@@ -1,4 +1,4 @@
-use Rattle.std.proofs.Common.{vec_items, subst}
+use Rattle.std.proofs.Common.{vec_items, rules, subst}
 use Rattle.commits.specs.declared.carry.CommitError.{CommitError}
 use Rattle.messages.specs.Received.{Declined}
 use Rattle.session.proofs.Replying.{told, turned-away}
@@ -17,7 +17,7 @@ returns-in-Refused c =
     record {
       bytes =
           λ k. turned-away c.args.handset.now c.args.message.now c.respond.new.handset c.in-Refused.refusal
-          (vec_items c.args.out.now) (vec_items c.turn_away.new.out) c.in-Err.ensures.orders.0
+          (vec_items c.args.out.now) _ c.in-Err.ensures.orders.0
           (subst (λ (e : CommitError). Declined c.args.handset.now c.args.message.now e) c.in-Refused.is c.in-Err.ensures.orders.1)
-          (c.turn_away.ensures.items k);
+          (search rules);
     }

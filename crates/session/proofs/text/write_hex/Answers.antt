@@ -1,4 +1,4 @@
-use Rattle.std.proofs.Common.{◌≡◌, ℕ, List, ◌++◌, get_or, take, vec_items, sym, refl, ap, ◌∙◌, append_assoc, rules}
+use Rattle.std.proofs.Common.{ℕ, List, ◌++◌, get_or, take, vec_items, sym, refl, ap, ◌∙◌, append_assoc}
 use Rattle.std.proofs.lemmas.List.{append-nil, take_all}
 use Rattle.session.specs.Text.{hex_byte, hex_text}
 use Rattle.session.proofs.Writing.{hex-more, hex-nothing}

@@ -1,4 +1,4 @@
-use Rattle.std.proofs.Common.{◌≡◌, ℕ, [], ◌∷◌, ◌++◌, vec_items, codes, refl, ap, ◌∙◌, append_assoc, rules}
+use Rattle.std.proofs.Common.{◌≡◌, ℕ, [], ◌∷◌, ◌++◌, vec_items, codes, refl, ap, rules}
 use Rattle.ratchet_tree.proofs.Appending.{appends-as, appends-two}
 use Rattle.session.specs.Text.{hex_text, one_number}
 use Rattle.session.proofs.text.write_seal.Goals as goal

@@ -1,4 +1,4 @@
-use Rattle.std.proofs.Common.{◌≡◌, ℕ, ◌∷◌, ◌++◌, vec_items, refl, ap, rules}
+use Rattle.std.proofs.Common.{◌≡◌, ℕ, vec_items, refl, ap, rules}
 use Rattle.ratchet_tree.proofs.Appending.{appends-as, appends-two}
 use Rattle.session.specs.Text.{two_numbers, three_numbers}
 use Rattle.session.proofs.text.write_three.Goals as goal
