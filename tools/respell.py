@@ -47,6 +47,8 @@ BEFORE = [
     ("crates/commits/proofs/Counting.antt", "next_level", "next_level-agrees"),
     ("crates/theory/proofs/Opened.antt", "some_read", "some_read-found"),
     ("crates/theory/proofs/Opened.antt", "is_open", "is_open-sound"),
+    # and one word of the library for one thing
+    ("crates/messages/specs/Take.antt", "i. get_or", "i. slice_index_or"),
 ]
 
 # Constructors that were spelled with a dash.
