@@ -1,4 +1,4 @@
-# make demo: play an example script. make test: prove everything from nothing and run all tests.
+# make demo: play an example script. make test: the gate: prove everything, and run all tests.
 .PHONY: demo test
 
 EXAMPLE ?= examples/taxi.txt

@@ -2,7 +2,7 @@
 """Respells this repository's own definitions, constructors and lemmas in snake case, as the kit's library has its words.
 
 usage: python3 tools/respell.py     at the top of the repository, once, right after the kit's port.py
-It goes by whole words (the parts that dashes and dots join), in sources, definitions, proofs, must-fail edits and documents.
+It goes by whole words, a dash or a dot ending one, in sources, definitions, proofs, must-fail edits and documents.
 Strings, inputs and outputs hold none of these words. Functions of src/ keep their names; where a definition would get the name of a
 function that stands in the same file, it gets another (OTHER), or is imported under another (BESIDE).
 """
@@ -28,7 +28,7 @@ stayingOn takingOn talkSlot theTree threeNumbers treeSeen twoNumbers underLeft u
 wellFormed wholeLeaf wholeNode
 """.split()
 
-# A definition whose snake case is the name of a function in the same file.
+# Other words than a name's own in snake case: the name of a function that stands where the definition is cited, or the library's own word.
 OTHER = {
     "getD": "get_or",
     "countsAgree": "counts_match",
@@ -42,12 +42,12 @@ OTHER = {
     "isMerging": "merges",
 }
 
-# Lemmas and locals that would fall together with a definition of the same file: (file, old, new), done first.
+# Done first, (file, old, new): lemmas that would fall together with a definition of the same file,
 BEFORE = [
     ("crates/commits/proofs/Counting.antt", "next_level", "next_level-agrees"),
     ("crates/theory/proofs/Opened.antt", "some_read", "some_read-found"),
     ("crates/theory/proofs/Opened.antt", "is_open", "is_open-sound"),
-    # and one word of the library for one thing
+    # and one word of the library for one thing.
     ("crates/messages/specs/Take.antt", "i. get_or", "i. slice_index_or"),
 ]
 

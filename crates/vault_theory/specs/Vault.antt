@@ -74,7 +74,7 @@ has_sealed k x v =
 abbrev pub has_given : {K : Type 0} → K → Vault K → Vault K
 has_given k v = record { slots = v.slots; draws = v.draws; sealed = v.sealed; given = v.given ++ (k ∷ []) }
 
--- one order, with the boxes of a message at hand. None where an empty slot is read or forgotten, a filled one written, a slot isn't there,
+-- one order, with the boxes of a message at hand. None where nothing is left to draw, an empty slot is read or forgotten, a filled one written, a slot isn't there,
 -- or a box isn't there or is sealed to another key.
 unfoldable pub step : {K : Type 0} → Halves K → List (Sealed K) → Order K → Vault K → Option (Vault K)
 step keys boxes (draw t) v = drew t v.draws v
