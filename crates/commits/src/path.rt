@@ -1,5 +1,5 @@
 // The committer's path: a new leaf key, and node keys from its leaf to the top.
-ghost use Rattle.std.specs.Prelude.{◌≡◌, suc, ◌≤◌, not, [], length, if◌then◌else◌};
+ghost use Rattle.std.specs.Prelude.{◌≡◌, ◌≤◌, not, [], length, if◌then◌else◌};
 ghost use Rattle.theory.specs.Limits.{max_depth};
 ghost use Rattle.theory.specs.Path.{laid};
 ghost use Rattle.theory.specs.Tree.{blank_parent, is_at, keyed, occupied, resolution};

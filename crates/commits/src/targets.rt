@@ -1,5 +1,5 @@
 // Whom the committer seals to: on each level, the keys of the resolution of the path's other side.
-ghost use Rattle.std.specs.Prelude.{◌≡◌, ◌≤◌, map, IfOk};
+ghost use Rattle.std.specs.Prelude.{◌≤◌, map, IfOk};
 ghost use Rattle.theory.specs.Limits.{max_depth};
 ghost use Rattle.theory.specs.Path.{sealed_to};
 ghost use Rattle.ratchet_tree.specs.Keys.{Appends};

@@ -1,6 +1,5 @@
 // A handset takes a message: the tree and the epoch that come of it, or a refusal that changes nothing.
-ghost use Rattle.std.specs.Prelude.{◌≡◌, not, ◌&&◌, IfOk};
-ghost use Rattle.theory.specs.Tree.{seated};
+ghost use Rattle.std.specs.Prelude.{◌≡◌, ◌&&◌, IfOk};
 ghost use Rattle.ratchet_tree.specs.Trees.{the_tree};
 ghost use Rattle.commits.specs.Commits.{change_of, commit_of as commit_meant};
 ghost use Rattle.messages.specs.Message.{message_of};

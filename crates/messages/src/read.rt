@@ -1,5 +1,4 @@
 // Reading a commit message. Everything is read to its end, or it is no message.
-ghost use Rattle.std.specs.Prelude.{◌≡◌};
 ghost use Rattle.wire.specs.Bytes.{Reads, ReadsAs, Whole};
 ghost use Rattle.messages.specs.Message.{ChangeOf, HeaderFits, Received, change_keys, header_bytes, keys_bytes};
 

@@ -1,5 +1,5 @@
 // Numbers and keys at the front of some bytes, and appended to some.
-ghost use Rattle.std.specs.Prelude.{◌≡◌, ◌<◌};
+ghost use Rattle.std.specs.Prelude.{◌<◌};
 ghost use Rattle.ratchet_tree.specs.Keys.{Appends};
 ghost use Rattle.wire.specs.Bytes.{Half, Reads, ReadsAs, Whole, be16, key_bytes, run_bytes};
 
