@@ -1,7 +1,7 @@
 -- Appending keys one after the other, and members in a list.
 -- Assumes nothing.
-use Rattle.std.proofs.Common.{◌≡◌, ℕ, zero, suc, ◌+◌, ◌<◌, true, false, eqb, List, [], ◌∷◌, ◌++◌, length, get_or, take, Result, sym, refl, ap, ◌∙◌, append_assoc, arith}
-use Rattle.std.proofs.lemmas.List.{take_more, append-nil, map-append}
+use Rattle.std.proofs.Common.{◌≡◌, ℕ, zero, suc, ◌+◌, ◌<◌, ◌≤◌, true, false, eqb, List, [], ◌∷◌, ◌++◌, length, get_or, take, Result, sym, refl, ap, ◌∙◌, append_assoc, arith}
+use Rattle.std.proofs.lemmas.List.{take_all, take_more, append-nil, map-append}
 use Rattle.std.proofs.lemmas.Bool.{eq-eqb, ne_eqb, or_left, or_right, or_from}
 use Rattle.theory.specs.Held.{is_unmerged}
 use Rattle.theory.specs.Tree.{Tree, node, Parent, blank_parent, keyed, leaf_key, leaf_keys, resolution}
@@ -34,6 +34,18 @@ leaf_keys-more ms i d t h =
     ∙ ap (λ l. leaf_keys l t) (map-append (λ (m : MemberId). m.0) (take i ms) (get_or ms i d ∷ []))
     ∙ leaf_keys-append (numbers (take i ms)) ((get_or ms i d).0 ∷ []) t
     ∙ ap (λ l. leaf_keys (numbers (take i ms)) t ++ l) (leaf_keys-one (get_or ms i d).0 t)
+
+-- members' leaf keys, appended one after the other: what stands there after the first of them, after one more, and after all
+module _ {K : Type 0} (before out : List K) (ms : List MemberId) (i : ℕ) (t : Tree K) (so_far : out ≡ before ++ leaf_keys (numbers (take i ms)) t) where
+  pub leaf_keys-step : (next : List K) (d : MemberId) → i < length ms → next ≡ out ++ leaf_key (get_or ms i d).0 t →
+      next ≡ before ++ leaf_keys (numbers (take (i + 1) ms)) t
+  leaf_keys-step next d h e =
+      e ∙ ap (λ l. l ++ leaf_key (get_or ms i d).0 t) so_far
+      ∙ append_assoc before (leaf_keys (numbers (take i ms)) t) (leaf_key (get_or ms i d).0 t)
+      ∙ ap (λ l. before ++ l) (sym (leaf_keys-more ms i d t h))
+
+  pub leaf_keys-whole : length ms ≤ i → out ≡ before ++ leaf_keys (numbers ms) t
+  leaf_keys-whole end = so_far ∙ ap (λ l. before ++ leaf_keys (numbers l) t) (take_all i ms end)
 
 -- the resolution under a node key, from what is known of its node
 pub resolution-keyed : {K : Type 0} (t : Tree K) (p : Parent K) (l r : Tree K) (k : K) (un : List ℕ) → t ≡ node p l r → p ≡ keyed k un → k ∷ leaf_keys un t ≡ resolution t

@@ -1,10 +1,8 @@
-use Rattle.std.proofs.Common.{ℕ, List, ◌++◌, get_or, take, vec_items, sym, refl, ap, ◌∙◌, append_assoc}
-use Rattle.ratchet_tree.specs.declared.member.PublicKey.{PublicKey}
-use Rattle.std.proofs.lemmas.List.{append-nil, take_all}
-use Rattle.theory.specs.Tree.{leaf_key, leaf_keys}
-use Rattle.ratchet_tree.specs.Nodes.{numbers}
+use Rattle.std.proofs.Common.{vec_items, sym, refl}
+use Rattle.std.proofs.lemmas.List.{append-nil}
+use Rattle.theory.specs.Tree.{leaf_keys}
 use Rattle.ratchet_tree.specs.Parts.{part_tree}
-use Rattle.ratchet_tree.proofs.Appending.{leaf_keys-more}
+use Rattle.ratchet_tree.proofs.Appending.{leaf_keys-step, leaf_keys-whole}
 use Rattle.ratchet_tree.proofs.part.Part.push_few_leaf_keys.Goals as goal
 
 pub loop-member-init : goal.loop-member-init
@@ -13,16 +11,11 @@ loop-member-init c = sym (append-nil (vec_items c.args.out.now))
 
 pub loop-member-preserved : goal.loop-member-preserved
 loop-member-preserved c =
-    let m : ℕ = (get_or c.args.members.now c.loop-member.member-index (record { 0 = 0 })).0 in
-    let before : List PublicKey = vec_items c.args.out.now in
-    let keys : List PublicKey = leaf_keys (numbers (take c.loop-member.member-index c.args.members.now)) (part_tree c.args.self) in
-    c.in_ok-push_leaf_key.ensures.items refl
-    ∙ ap (λ l. l ++ leaf_key m (part_tree c.args.self)) c.loop-member.invariant
-    ∙ append_assoc before keys (leaf_key m (part_tree c.args.self))
-    ∙ ap (λ l. before ++ l) (sym (leaf_keys-more c.args.members.now c.loop-member.member-index (record { 0 = 0 }) (part_tree c.args.self) c.loop-member-test.true))
+    leaf_keys-step (vec_items c.args.out.now) _ c.args.members.now c.loop-member.member-index (part_tree c.args.self) c.loop-member.invariant
+    _ (record { 0 = 0 }) c.loop-member-test.true (c.in_ok-push_leaf_key.ensures.items refl)
 
 pub returns : goal.returns
 returns c =
     record {
-      items = λ k. c.loop-member.invariant ∙ ap (λ l. vec_items c.args.out.now ++ leaf_keys (numbers l) (part_tree c.args.self)) (take_all c.loop-member.member-index c.args.members.now c.loop-member-test.false);
+      items = λ _. leaf_keys-whole (vec_items c.args.out.now) _ c.args.members.now c.loop-member.member-index (part_tree c.args.self) c.loop-member.invariant c.loop-member-test.false;
     }
