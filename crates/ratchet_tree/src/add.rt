@@ -90,9 +90,7 @@ impl RatchetTree {
     fn with_room(&self, heap: Global) -> Result<RatchetTree, TreeError>
         ensures { Grown self.now result }
     {
-        let Ok(mut nodes) = copy_nodes(heap, &self.nodes) else {
-            return Err(TreeError::OutOfMemory);
-        };
+        let mut nodes = copy_nodes(heap, &self.nodes)?;
         let depth = self.depth;
         if !self.as_part().is_full() {
             return Ok(RatchetTree { nodes, depth });
@@ -100,9 +98,7 @@ impl RatchetTree {
         if depth >= MAX_DEPTH {
             return Err(TreeError::NoRoom);
         }
-        let Ok(()) = double(&mut nodes) else {
-            return Err(TreeError::OutOfMemory);
-        };
+        double(&mut nodes)?;
         Ok(RatchetTree {
             nodes,
             depth: depth + 1,
@@ -120,9 +116,7 @@ impl RatchetTree {
     {
         let mut next = self.with_room(heap)?;
         let depth = next.depth;
-        let Ok(()) = add_in(&mut next.nodes, depth, member, key) else {
-            return Err(TreeError::OutOfMemory);
-        };
+        add_in(&mut next.nodes, depth, member, key)?;
         Ok(next)
     }
 }

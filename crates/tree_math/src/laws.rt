@@ -1,56 +1,38 @@
 // The laws of the numbering, each the contract of a function.
 ghost use Rattle.tree_math.specs.Laws.{ChildHeights, ChildlessLeaves, ChildrenOfParent, Covers, LeafPlaces, Numbering, Outside, ParentOfChildren, RootHasNoParent};
 
-pub fn numbering_holds() -> u8
+pub fn numbering_holds()
     ensures { Numbering }
-{
-    0
-}
+{}
 
-pub fn covers_holds() -> u8
+pub fn covers_holds()
     ensures { Covers }
-{
-    0
-}
+{}
 
-pub fn leaf_places_hold() -> u8
+pub fn leaf_places_hold()
     ensures { LeafPlaces }
-{
-    0
-}
+{}
 
-pub fn child_heights_hold() -> u8
+pub fn child_heights_hold()
     ensures { ChildHeights }
-{
-    0
-}
+{}
 
-pub fn childless_leaves_hold() -> u8
+pub fn childless_leaves_hold()
     ensures { ChildlessLeaves }
-{
-    0
-}
+{}
 
-pub fn parent_of_children_holds() -> u8
+pub fn parent_of_children_holds()
     ensures { ParentOfChildren }
-{
-    0
-}
+{}
 
-pub fn children_of_parent_hold() -> u8
+pub fn children_of_parent_hold()
     ensures { ChildrenOfParent }
-{
-    0
-}
+{}
 
-pub fn root_has_no_parent_holds() -> u8
+pub fn root_has_no_parent_holds()
     ensures { RootHasNoParent }
-{
-    0
-}
+{}
 
-pub fn outside_holds() -> u8
+pub fn outside_holds()
     ensures { Outside }
-{
-    0
-}
+{}

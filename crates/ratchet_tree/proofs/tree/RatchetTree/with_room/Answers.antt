@@ -27,11 +27,11 @@ module _ (d : ℕ) (ns items copy : List Node) (lent : ns ≡ items) (same : map
       ∙ sym (cond-true (full (tree_of d items)) (node blank_parent (tree_of d items) (blank_tree (tree_of d items))) (tree_of d items) f)
 
 pub invariant_of-result : goal.invariant_of-result
-invariant_of-result c = record { whole = omega (arith, same_length (vec_items c.in-Ok.nodes) c.deref.result.now c.in-Ok.ensures, c.deref.ensures.len, c.in-Ok.nodes.ok.0); shallow = c.args.self.now.shallow }
+invariant_of-result c = record { whole = omega (arith, same_length (vec_items c.in_ok-nodes.nodes) c.deref.result.now c.in_ok-nodes.ensures, c.deref.ensures.len, c.in_ok-nodes.nodes.ok.0); shallow = c.args.self.now.shallow }
 
 pub returns-then-not-is_full : goal.returns-then-not-is_full
 returns-then-not-is_full c =
-    not-grown c.args.self.now.depth c.deref.result.now (vec_items c.args.self.now.nodes) (vec_items c.in-Ok.nodes) c.deref.ensures.value c.in-Ok.ensures
+    not-grown c.args.self.now.depth c.deref.result.now (vec_items c.args.self.now.nodes) (vec_items c.in_ok-nodes.nodes) c.deref.ensures.value c.in_ok-nodes.ensures
     (ap full (sym c.as_part.ensures) ∙ sym c.if-not-is_full.ensures)
 
 pub returns-then-depth-ge-MAX_DEPTH : goal.returns-then-depth-ge-MAX_DEPTH
@@ -45,13 +45,13 @@ invariant_of-result-2 c =
     let items : List Node = vec_items c.args.self.now.nodes in
     let long : length items ≡ span c.args.self.now.depth = omega (arith, c.args.self.now.nodes.ok.0, c.args.self.now.whole) in
     let twice : length (vec_items c.double.new.nodes) ≡ span (suc c.args.self.now.depth) =
-    doubled-length c.args.self.now.depth (vec_items c.in-Ok.nodes) (vec_items c.double.new.nodes)
-    (copy-length c.args.self.now.depth c.deref.result.now items (vec_items c.in-Ok.nodes) c.deref.ensures.value c.in-Ok.ensures ∙ long)
-    (c.in-Ok-double.ensures.items refl) in
+    doubled-length c.args.self.now.depth (vec_items c.in_ok-nodes.nodes) (vec_items c.double.new.nodes)
+    (copy-length c.args.self.now.depth c.deref.result.now items (vec_items c.in_ok-nodes.nodes) c.deref.ensures.value c.in_ok-nodes.ensures ∙ long)
+    (c.in_ok-double.ensures.items refl) in
     record { whole = omega (arith, c.double.new.nodes.ok.0, ap span (add-one c.args.self.now.depth)); shallow = omega arith }
 
 pub returns : goal.returns
 returns c =
-    doubled c.args.self.now.depth c.deref.result.now (vec_items c.args.self.now.nodes) (vec_items c.in-Ok.nodes) c.deref.ensures.value c.in-Ok.ensures
-    (vec_items c.double.new.nodes) (omega (arith, c.args.self.now.nodes.ok.0, c.args.self.now.whole)) (c.in-Ok-double.ensures.items refl)
+    doubled c.args.self.now.depth c.deref.result.now (vec_items c.args.self.now.nodes) (vec_items c.in_ok-nodes.nodes) c.deref.ensures.value c.in_ok-nodes.ensures
+    (vec_items c.double.new.nodes) (omega (arith, c.args.self.now.nodes.ok.0, c.args.self.now.whole)) (c.in_ok-double.ensures.items refl)
     (ap full (sym c.as_part.ensures) ∙ sym c.if-not-is_full.ensures)
