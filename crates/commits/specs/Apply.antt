@@ -16,8 +16,8 @@ use Rattle.commits.specs.Path.{key_from}
 use Rattle.commits.specs.Refusals.{number_of}
 use Rattle.commits.specs.Targets.{target_of}
 use Rattle.commits.specs.declared.carry.Applied.{Applied}
-use Rattle.commits.specs.declared.carry.CommitError.{CommitError}
-use Rattle.commits.specs.declared.carry.CommitError.TheVariants as commit-error
+use Rattle.commits.specs.declared.error.CommitError.{CommitError}
+use Rattle.commits.specs.declared.error.CommitError.TheVariants as commit-error
 use Rattle.commits.specs.declared.carry.CommitKeys.{CommitKeys}
 use Rattle.commits.specs.declared.count.Counts.{Counts}
 

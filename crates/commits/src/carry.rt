@@ -6,9 +6,9 @@ ghost use Rattle.commits.specs.Commits.{change_of, commit_of};
 
 use crate::change::{Change, Commit, Epoch};
 use crate::count::{Counts, path_counts};
+use crate::error::CommitError;
 use crate::judge::verdict;
 use crate::path::{PathKeys, lay_path};
-use crate::refusal::Refusal;
 use crate::targets::{Target, path_targets};
 use ratchet_tree::{MemberId, PublicKey, RatchetTree, TreeError};
 use std::alloc::Global;
@@ -28,12 +28,6 @@ pub struct Applied {
     pub targets: Vec<Target>,
 }
 
-#[derive(Clone, Copy)]
-pub enum CommitError {
-    Refused(Refusal),
-    OutOfMemory,
-}
-
 // The tree with what is asked, before the path.
 fn asked(
     heap: Global,
@@ -46,9 +40,7 @@ fn asked(
     if let Change::Add(member) = change {
         return tree.with_member(heap, member, newcomer);
     }
-    let Ok(mut next) = tree.copy(heap) else {
-        return Err(TreeError::OutOfMemory);
-    };
+    let mut next = tree.copy(heap)?;
     if let Change::Remove(member) = change {
         next.remove(member);
     }
@@ -66,15 +58,9 @@ pub fn ready(
     ensures tree { Ready epoch.0 (commit_of commit) newcomer (the_tree tree.now) result }
 {
     if let Some(refusal) = verdict(tree, epoch, commit) {
-        return Err(CommitError::Refused(refusal));
+        return Err(refusal.into());
     }
-    match asked(heap, tree, commit.change, newcomer) {
-        Ok(next) => Ok(next),
-        Err(error) => match error {
-            TreeError::NoRoom => Err(CommitError::Refused(Refusal::GroupFull)),
-            TreeError::OutOfMemory => Err(CommitError::OutOfMemory),
-        },
-    }
+    Ok(asked(heap, tree, commit.change, newcomer)?)
 }
 
 // A newcomer is also sent the epoch's secret.
@@ -102,11 +88,9 @@ fn renew(
         change: Change::Renew,
     };
     if let Some(why) = verdict(tree, epoch, commit) {
-        return Err(CommitError::Refused(why));
+        return Err(why.into());
     }
-    let Ok(targets) = path_targets(heap, tree.as_part(), committer) else {
-        return Err(CommitError::OutOfMemory);
-    };
+    let targets = path_targets(heap, tree.as_part(), committer)?;
     let node_keys = lay_path(heap, tree, committer, keys.path);
     Ok(Applied {
         node_keys,
@@ -130,9 +114,7 @@ pub fn apply(
         return renew(heap, tree, epoch, commit.committer, keys);
     }
     let mut next = ready(heap, tree, epoch, commit, keys.newcomer)?;
-    let Ok(targets) = path_targets(heap, next.as_part(), commit.committer) else {
-        return Err(CommitError::OutOfMemory);
-    };
+    let targets = path_targets(heap, next.as_part(), commit.committer)?;
     let node_keys = lay_path(heap, &mut next, commit.committer, keys.path);
     let boxes = targets.len() + welcome_count(commit.change);
     *tree = next;

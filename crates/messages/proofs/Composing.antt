@@ -7,8 +7,8 @@ use Rattle.theory.specs.Group.{first_of, refusal}
 use Rattle.theory.specs.Tree.{Tree, seated}
 use Rattle.ratchet_tree.specs.Trees.{the_tree}
 use Rattle.ratchet_tree.specs.declared.member.PublicKey.{PublicKey}
-use Rattle.commits.specs.declared.carry.CommitError.{CommitError}
-use Rattle.commits.specs.declared.carry.CommitError.TheVariants.{Refused, OutOfMemory}
+use Rattle.commits.specs.declared.error.CommitError.{CommitError}
+use Rattle.commits.specs.declared.error.CommitError.TheVariants.{Refused, OutOfMemory}
 use Rattle.wire.specs.Bytes.{key_bytes, Whole}
 use Rattle.messages.specs.Compose.{Composed, ComposedIsTaken, Composes, Made, Makes, Unmade, commit_by, compose_refusal, countable, has_parts, make_refusal, message_by}
 use Rattle.messages.specs.Message.{Message, Fits, encode}

@@ -10,8 +10,8 @@ use Rattle.theory.proofs.Follows.{message-done}
 use Rattle.ratchet_tree.specs.Trees.{the_tree}
 use Rattle.ratchet_tree.specs.declared.member.PublicKey.{PublicKey}
 use Rattle.commits.specs.Refusals.{number_of}
-use Rattle.commits.specs.declared.carry.CommitError.{CommitError}
-use Rattle.commits.specs.declared.carry.CommitError.TheVariants.{Refused, OutOfMemory}
+use Rattle.commits.specs.declared.error.CommitError.{CommitError}
+use Rattle.commits.specs.declared.error.CommitError.TheVariants.{Refused, OutOfMemory}
 use Rattle.wire.specs.Bytes.{Half}
 use Rattle.messages.specs.Letters.{letter_of, Stands, Concerns, TookLetter, Delivered, LettersDeliver, Arriving, LettersArrive}
 use Rattle.messages.specs.Message.{Message, Fits, encode, message_of}

@@ -8,8 +8,8 @@ use Rattle.theory.specs.Tree.{Tree, seated}
 use Rattle.ratchet_tree.specs.Trees.{the_tree}
 use Rattle.ratchet_tree.specs.declared.member.PublicKey.{PublicKey}
 use Rattle.commits.specs.Apply.{Stopped}
-use Rattle.commits.specs.declared.carry.CommitError.{CommitError}
-use Rattle.commits.specs.declared.carry.CommitError.TheVariants.{Refused, OutOfMemory}
+use Rattle.commits.specs.declared.error.CommitError.{CommitError}
+use Rattle.commits.specs.declared.error.CommitError.TheVariants.{Refused, OutOfMemory}
 use Rattle.messages.specs.Message.{Message}
 use Rattle.messages.specs.Take.{Left, change_asked, commit_asked, is_newcomer, is_stranger, message_refusal, or_next, right_counts}
 use Rattle.messages.specs.declared.handset.Handset.{Handset}

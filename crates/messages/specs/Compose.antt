@@ -9,8 +9,8 @@ use Rattle.theory.specs.Tree.{Tree, seated}
 use Rattle.ratchet_tree.specs.Trees.{the_tree}
 use Rattle.ratchet_tree.specs.declared.member.PublicKey.{PublicKey}
 use Rattle.commits.specs.Refusals.{number_of}
-use Rattle.commits.specs.declared.carry.CommitError.{CommitError}
-use Rattle.commits.specs.declared.carry.CommitError.TheVariants as commit-error
+use Rattle.commits.specs.declared.error.CommitError.{CommitError}
+use Rattle.commits.specs.declared.error.CommitError.TheVariants as commit-error
 use Rattle.messages.specs.Letters.{TookLetter}
 use Rattle.messages.specs.Message.{Message, Fits, encode}
 use Rattle.messages.specs.Received.{TakesBytes}

@@ -13,8 +13,8 @@ use Rattle.theory.specs.Secrets.{Secret, Box, drawn, newcomer_key, init_key, loc
 use Rattle.theory.specs.Tree.{seated}
 use Rattle.ratchet_tree.specs.Trees.{the_tree}
 use Rattle.ratchet_tree.specs.declared.member.PublicKey.{PublicKey}
-use Rattle.commits.specs.declared.carry.CommitError.{CommitError}
-use Rattle.commits.specs.declared.carry.CommitError.TheVariants as commit-error
+use Rattle.commits.specs.declared.error.CommitError.{CommitError}
+use Rattle.commits.specs.declared.error.CommitError.TheVariants as commit-error
 use Rattle.wire.specs.Bytes.{Half}
 use Rattle.messages.specs.Message.{Message, Fits, encode, message_of}
 use Rattle.messages.specs.Received.{TakesBytes}

@@ -2,8 +2,8 @@
 -- `Declined`: why nothing changed; `TakesBytes`: the handset after a message that was taken, or as it was.
 -- Assumes nothing.
 use Rattle.std.specs.Prelude.{◌≡◌, ℕ, ◌⊎◌, List, Ok, Err, Result, ◌≢◌}
-use Rattle.commits.specs.declared.carry.CommitError.{CommitError}
-use Rattle.commits.specs.declared.carry.CommitError.TheVariants.{Refused}
+use Rattle.commits.specs.declared.error.CommitError.{CommitError}
+use Rattle.commits.specs.declared.error.CommitError.TheVariants.{Refused}
 use Rattle.commits.specs.declared.refusal.Refusal.TheVariants.{Malformed}
 use Rattle.messages.specs.Message.{Message, Fits, encode, message_of}
 use Rattle.messages.specs.Take.{Left, Taken}

@@ -12,8 +12,8 @@ use Rattle.ratchet_tree.specs.declared.member.PublicKey.{PublicKey}
 use Rattle.ratchet_tree.specs.declared.tree.RatchetTree.{RatchetTree}
 use Rattle.commits.specs.Apply.{welcomes}
 use Rattle.commits.specs.Refusals.{number_of}
-use Rattle.commits.specs.declared.carry.CommitError.{CommitError}
-use Rattle.commits.specs.declared.carry.CommitError.TheVariants as commit-error
+use Rattle.commits.specs.declared.error.CommitError.{CommitError}
+use Rattle.commits.specs.declared.error.CommitError.TheVariants as commit-error
 use Rattle.wire.specs.Bytes.{Half, key_bytes}
 use Rattle.messages.specs.Message.{Message}
 use Rattle.messages.specs.declared.handset.Handset.{Handset}

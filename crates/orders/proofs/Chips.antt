@@ -23,8 +23,8 @@ use Rattle.vault_theory.proofs.Kept.{slots_kept}
 use Rattle.vault_theory.proofs.OrdersNatural.{orders-map}
 use Rattle.vault_theory.specs.Capped.{cap_order}
 use Rattle.vault_theory.proofs.Capped.{cap-keeps}
-use Rattle.commits.specs.declared.carry.CommitError.{CommitError}
-use Rattle.commits.specs.declared.carry.CommitError.TheVariants as commit-error
+use Rattle.commits.specs.declared.error.CommitError.{CommitError}
+use Rattle.commits.specs.declared.error.CommitError.TheVariants as commit-error
 use Rattle.messages.specs.Letters.{Concerns, Stands, TookLetter}
 use Rattle.messages.specs.Message.{Message}
 use Rattle.messages.specs.Take.{Taken, commit_asked, fresh_key}

@@ -10,7 +10,7 @@ use Rattle.vault_theory.specs.Orders.{committing, orders_of, welcomed}
 use Rattle.ratchet_tree.specs.Trees.{the_tree}
 use Rattle.ratchet_tree.specs.declared.member.PublicKey.{PublicKey}
 use Rattle.commits.specs.Apply.{Stopped}
-use Rattle.commits.specs.declared.carry.CommitError.{CommitError}
+use Rattle.commits.specs.declared.error.CommitError.{CommitError}
 use Rattle.messages.specs.Message.{Message, Fits, encode}
 use Rattle.messages.specs.Received.{Declined}
 use Rattle.messages.specs.Take.{Left, Taken, change_asked, commit_asked, fresh_in, fresh_key, message_refusal}

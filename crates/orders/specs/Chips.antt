@@ -9,8 +9,8 @@ use Rattle.theory.specs.Limits.{nobody}
 use Rattle.theory.specs.Secrets.{Secret, Box}
 use Rattle.wire.specs.Bytes.{Half}
 use Rattle.ratchet_tree.specs.declared.member.PublicKey.{PublicKey}
-use Rattle.commits.specs.declared.carry.CommitError.{CommitError}
-use Rattle.commits.specs.declared.carry.CommitError.TheVariants.{OutOfMemory}
+use Rattle.commits.specs.declared.error.CommitError.{CommitError}
+use Rattle.commits.specs.declared.error.CommitError.TheVariants.{OutOfMemory}
 use Rattle.messages.specs.Letters.{Stands, letter_of}
 use Rattle.messages.specs.Message.{encode}
 use Rattle.messages.specs.declared.handset.Handset.{Handset}

@@ -2,7 +2,7 @@
 -- Assumes nothing.
 use Rattle.std.proofs.Common.{◌≡◌, ℕ, List, [], ◌∷◌, ◌++◌, map, refl, ap, ◌∙◌, inl, inr}
 use Rattle.commits.specs.Refusals.{number_of}
-use Rattle.commits.specs.declared.carry.CommitError.TheVariants.{Refused}
+use Rattle.commits.specs.declared.error.CommitError.TheVariants.{Refused}
 use Rattle.commits.specs.declared.refusal.Refusal.{Refusal}
 use Rattle.messages.specs.Received.{Declined}
 use Rattle.messages.specs.declared.handset.Handset.{Handset}

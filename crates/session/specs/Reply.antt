@@ -4,7 +4,7 @@
 use Rattle.std.specs.Prelude.{◌≡◌, ℕ, true, ◌⊎◌, List, [], ◌∷◌, ◌++◌, map, is_ok, Result}
 use Rattle.ratchet_tree.specs.declared.member.PublicKey.{PublicKey}
 use Rattle.commits.specs.Refusals.{number_of}
-use Rattle.commits.specs.declared.carry.CommitError.TheVariants.{Refused}
+use Rattle.commits.specs.declared.error.CommitError.TheVariants.{Refused}
 use Rattle.commits.specs.declared.refusal.Refusal.{Refusal}
 use Rattle.messages.specs.Message.{Message, Fits, encode}
 use Rattle.messages.specs.Received.{Declined}

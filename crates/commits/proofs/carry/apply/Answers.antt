@@ -11,10 +11,10 @@ use Rattle.commits.proofs.carry.apply.Goals as goal
 pub returns : goal.returns
 returns c =
     let is = c.in_ok-next.ensures.tree in
-    let targets : map target_of (vec_items c.in-Ok.targets) ≡ (laid_by (commit_of c.args.commit) c.args.keys.newcomer c.args.keys.path.leaf (key_from c.args.keys.path) (the_tree c.args.tree.now)).targets =
-    c.in-Ok.ensures.value c.args.keys.path.leaf (key_from c.args.keys.path)
+    let targets : map target_of (vec_items c.in_ok-targets.targets) ≡ (laid_by (commit_of c.args.commit) c.args.keys.newcomer c.args.keys.path.leaf (key_from c.args.keys.path) (the_tree c.args.tree.now)).targets =
+    c.in_ok-targets.ensures.value c.args.keys.path.leaf (key_from c.args.keys.path)
     ∙ ap (λ t. (laid c.args.commit.committer.0 c.args.keys.path.leaf (key_from c.args.keys.path) t).targets) (c.as_part.ensures ∙ is.1) in
-    let many : length (vec_items c.in-Ok.targets) ≡ _ = sym (length-map (vec_items c.in-Ok.targets) target_of) ∙ ap length targets in
+    let many : length (vec_items c.in_ok-targets.targets) ≡ _ = sym (length-map (vec_items c.in_ok-targets.targets) target_of) ∙ ap length targets in
     record {
       tree =
           record {
@@ -26,6 +26,6 @@ returns c =
                 c.lay_path-node_keys.ensures.value
                 ∙ ap (λ t. (laid c.args.commit.committer.0 c.args.keys.path.leaf (key_from c.args.keys.path) t).levels) is.1;
             targets = targets;
-            boxes = omega (arith, c.len.ensures, c.in-Ok.targets.ok.0, c.welcome_count.ensures, many);
+            boxes = omega (arith, c.len.ensures, c.in_ok-targets.targets.ok.0, c.welcome_count.ensures, many);
           };
     }

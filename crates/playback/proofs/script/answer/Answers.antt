@@ -3,7 +3,7 @@ use Rattle.ratchet_tree.specs.Trees.{the_tree}
 use Rattle.commits.specs.Apply.{Stopped}
 use Rattle.commits.specs.Commits.{commit_of}
 use Rattle.commits.specs.Refusals.{number_of}
-use Rattle.commits.specs.declared.carry.CommitError.{CommitError}
+use Rattle.commits.specs.declared.error.CommitError.{CommitError}
 use Rattle.playback.specs.Play.{malformed, refused}
 use Rattle.playback.specs.Report.{refusal_bytes}
 use Rattle.playback.specs.Steps.{state_of}

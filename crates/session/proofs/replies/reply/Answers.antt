@@ -1,5 +1,5 @@
 use Rattle.std.proofs.Common.{vec_items, rules, subst}
-use Rattle.commits.specs.declared.carry.CommitError.{CommitError}
+use Rattle.commits.specs.declared.error.CommitError.{CommitError}
 use Rattle.messages.specs.Received.{Declined}
 use Rattle.session.proofs.Replying.{told, turned-away}
 use Rattle.session.proofs.replies.reply.Goals as goal
