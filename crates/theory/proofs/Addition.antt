@@ -170,5 +170,5 @@ unmerged m k t h absent none p q s =
       apart = λ n. ap (has_unmerged m) (parents-kept a.1 q (λ o. n (rw (← e) at o))) ∙ is_false (has_unmerged m (parent_at q t)) (none q);
     }
 
-pub unmerged-since : UnmergedSince
-unmerged-since = unmerged
+pub unmerged_since : UnmergedSince
+unmerged_since = unmerged

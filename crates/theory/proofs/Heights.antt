@@ -69,5 +69,5 @@ held-by-height (suc d) m (node p l r) e =
     (down-below m d p l r (omega arith) ∙ ap₂ (λ x y. cond (seated m l) x y) (held-by-height d m l el) (held-by-height d m r er))
     ∙ joined (seated m l) (seated m r) (node_key_held m p) (held m l) (held m r) (absent m r)
 
-pub held-by-height-holds : HeldByHeight
-held-by-height-holds d m t e = held-by-height d m t e
+pub held_by_height_holds : HeldByHeight
+held_by_height_holds d m t e = held-by-height d m t e

@@ -124,5 +124,5 @@ over-maker m own keys t p s =
       apart = parents-kept a;
     }
 
-pub path-laid : PathLaid
-path-laid = over-maker
+pub path_laid : PathLaid
+path_laid = over-maker

@@ -149,5 +149,5 @@ module _ (f : ℕ) (commits : ℕ → Commit) where
       (both (is_open f commits es n) (some_given f commits n es || refused) (open_is o)
       (or_right (some_given f commits n es) refused (not_T (allowed (commits n) (group f commits n)) r)))
 
-pub opened-is : OpenIs
-opened-is f commits es n = (is_open-sound f commits es n, open_is f commits)
+pub opened_is : OpenIs
+opened_is f commits es n = (is_open-sound f commits es n, open_is f commits)

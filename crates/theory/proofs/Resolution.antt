@@ -105,8 +105,8 @@ readied-peopled renew fresh t p = p
 readied-peopled (remove m) fresh t p = removed-peopled m p
 readied-peopled (add m) fresh t p = added-peopled m fresh (grown t) (grown-peopled t p)
 
-pub resolution-empty : ResolutionEmpty
-resolution-empty f commits n t b = (
+pub resolution_empty : ResolutionEmpty
+resolution_empty f commits n t b = (
   empty-deserted t,
   deserted-empty
       (peopled-below b

@@ -593,8 +593,8 @@ well-formed-facts t = (
   λ s. both (numbered t) (consistent t) (all-numbered t s.numbers) (sound-consistent (facts-sound t s.consistent)),
 )
 
-pub well-formed-is : WellFormedIs
-well-formed-is = well-formed-facts
+pub well_formed_is : WellFormedIs
+well_formed_is = well-formed-facts
 
-pub distinct-holds : Distinct
-distinct-holds f commits n = sound-sole (run_sound f commits n)
+pub distinct_holds : Distinct
+distinct_holds f commits n = sound-sole (run_sound f commits n)

@@ -118,14 +118,14 @@ module _ {K : Type 0} (keys : Halves K) (reflexive : (k : K) → T (keys.same k 
   run-carried bs (o ∷ os) v = carried-next (step themselves bs o v) _ _ _ (step-carried bs o v) (run-carried bs os)
 
   -- boxes at halves are the image of boxes at secrets
-  boxes-there : (bs : List Box) → map (map_sealed keys.half) (map (sealed_box (λ s. s)) bs) ≡ map (sealed_box keys.half) bs
-  boxes-there [] = refl
-  boxes-there (b ∷ bs) = ap (λ xs. sealed_box keys.half b ∷ xs) (boxes-there bs)
+  boxes_there : (bs : List Box) → map (map_sealed keys.half) (map (sealed_box (λ s. s)) bs) ≡ map (sealed_box keys.half) bs
+  boxes_there [] = refl
+  boxes_there (b ∷ bs) = ap (λ xs. sealed_box keys.half b ∷ xs) (boxes_there bs)
 
   pub run-at-halves : (bs : List Box) (os : List (Order Secret)) (v u : Vault Secret) → Carries keys bs os v u
   run-at-halves bs os v u e =
-      ap (λ xs. run keys xs (map (map_order keys.half) os) (there v)) (sym (boxes-there bs))
+      ap (λ xs. run keys xs (map (map_order keys.half) os) (there v)) (sym (boxes_there bs))
       ∙ run-carried (map (sealed_box (λ s. s)) bs) os v u e
 
-pub runs-at-halves : RunsAtHalves
-runs-at-halves = run-at-halves
+pub runs_at_halves : RunsAtHalves
+runs_at_halves = run-at-halves

@@ -203,11 +203,11 @@ followed-there k w c (level.at_node {d} {c = p} {l} {r} x y) (at_node f g m n) a
     or_swap true false h = tt
     or_swap false b h = or_left b false h
 
-pub boxes-there : BoxesThere
-boxes-there d u h s w c a b n i t m = followed-there (posted c u) w c (level-view d u h) (consistent-sound u s) a b (omega arith) (unseal n i t) m
+pub boxes_there : BoxesThere
+boxes_there d u h s w c a b n i t m = followed-there (posted c u) w c (level-view d u h) (consistent-sound u s) a b (omega arith) (unseal n i t) m
 
-pub boxes-few : BoxesFew
-boxes-few d u h s c a = (posted-fewer c (consistent-sound u s) a, members-few (level-view d u h))
+pub boxes_few : BoxesFew
+boxes_few d u h s c a = (posted-fewer c (consistent-sound u s) a, members-few (level-view d u h))
 
 -- EVERY NUMBER is no more than the members, whoever is seated.
 pub followed-under : {K : Type 0} (k w c : ℕ) {u : Tree K} → Sound u → members u < k → All (Under k) (followed w c u)

@@ -232,5 +232,5 @@ module _ {A B : Type 0} (f : A → B) where
         orders = orders-map;
       }
 
-pub orders-naturality : OrdersNaturality
-orders-naturality = orders-natural
+pub orders_naturality : OrdersNaturality
+orders_naturality = orders-natural

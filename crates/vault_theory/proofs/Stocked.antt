@@ -11,7 +11,7 @@ use Rattle.theory.specs.Group.{Group, stock}
 use Rattle.theory.specs.Laws.{held_down}
 use Rattle.theory.proofs.Tests.{by_cond, is_true, is_false, or_left, or_right, same_some, none-some}
 use Rattle.theory.proofs.Level.{Level, at_leaf, at_node, level-height}
-use Rattle.theory.proofs.Heights.{held-by-height-holds}
+use Rattle.theory.proofs.Heights.{held_by_height_holds}
 use Rattle.vault_theory.proofs.Depth.{level-view}
 use Rattle.vault_theory.specs.Layout.{first, layout, LayoutHolds}
 
@@ -115,7 +115,7 @@ module _ (g : Group) (d w : ℕ) (h : T (is_level d g.tree)) (s : Secret) where
       let t = g.tree in
       let m = first-in (held_at w i t) e in
       Memᴰ.tail (Memᴰ.tail
-      (rw (← held-by-height-holds d w t h) (down-in s w i d t (held_low s w i (level-view d t h) m) m)))
+      (rw (← held_by_height_holds d w t h) (down-in s w i d t (held_low s w i (level-view d t h) m) m)))
 
   stocked-slot : T (seated w g.tree) → Stocked w g s → Slot w g s
   stocked-slot p m =
@@ -126,7 +126,7 @@ module _ (g : Group) (d w : ℕ) (h : T (is_level d g.tree)) (s : Secret) where
               | inl e ↦ (1, rw (is_true (seated w g.tree) p, e))
               | inr k ↦
                   let t = g.tree in
-                  let x = in-down s w d t (rw (held-by-height-holds d w t h) k) in
+                  let x = in-down s w d t (rw (held_by_height_holds d w t h) k) in
                   (suc (suc x.0), held-lone s w x.0 t x.1)
             ]
       ]
@@ -144,5 +144,5 @@ module _ (g : Group) (d w : ℕ) (h : T (is_level d g.tree)) (s : Secret) where
       (λ p. (λ x. slot-stocked p x.0 x.1, stocked-slot p))
       (λ n. (λ x. absurd (absent-slot n x.0 x.1), λ m. absurd (Memᴰ.not-nil m)))
 
-pub layout-holds : LayoutHolds
-layout-holds g d w h s = slots-just g d w h s
+pub layout_holds : LayoutHolds
+layout_holds g d w h s = slots-just g d w h s
