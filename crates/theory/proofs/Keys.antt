@@ -231,6 +231,24 @@ merged-adding {m} {j} {un} {l} {r} had a h f w k = (
       ),
 )
 
+-- the level that a path lays on top of those below it, given what was kept of both: who sits under it, and that the others stay
+module _ {K : Type 0} {m : ℕ} {own : K} {keys : ℕ → K} {n : ℕ} {t u : Tree K} {ts : List (Target K)} (a : Path m own keys t u n ts) where
+  on-top :
+      {has had : ℕ → K → Type 0} → ((w : ℕ) (k : K) → (Had a n w k ⊎ ((n ≡ n) × has w k)) ↔ had w k) →
+      (w : ℕ) (k : K) → (Unit {0} × has w k) ↔ had w k
+  on-top f w k = (
+    λ y. (f w k).0 (inr (refl, y.1)),
+    λ y. (tt, elim ((f w k).1 y) [ inl z ↦ absurd (let b : n < n = had-below w k n a z in omega arith) | inr z ↦ z.1 ]),
+  )
+
+  lower :
+      {i : ℕ} {has had : ℕ → K → Type 0} → i < n → ((w : ℕ) (k : K) → (Had a i w k ⊎ ((i ≡ n) × has w k)) ↔ had w k) →
+      (w : ℕ) (k : K) → Had a i w k ↔ had w k
+  lower {i} b f w k = (
+    λ y. (f w k).0 (inl y),
+    λ y. elim ((f w k).1 y) [ inl z ↦ z | inr z ↦ absurd (let d : i ≡ n = z.0 in omega arith) ],
+  )
+
 -- NODE KEYS. Each comes from somewhere; those merged below it are those that sat there then, with the same leaf keys.
 pub data Keyed {K : Type 0} {I : Type 0} (key : I → K) (had : I → ℕ → K → Type 0) : Tree K → Type 0 where
   at_leaf : {x : Leaf K} → Keyed key had (leaf x)
@@ -301,43 +319,17 @@ module _ {K : Type 0} {I : Type 0} {key : I → K} {had : I → ℕ → K → Ty
   keyed-path (elsewhere g) f x = x
   keyed-path (here g) f x = at_leaf
   keyed-path (left_none g a) f x = at_blank (keyed-path a f (keyed-left x)) (keyed-right x)
-  keyed-path {keys} (left_some {n} e g a) f x =
+  keyed-path (left_some {n} e g a) f x =
       let top = f n (omega arith) in
-      at_keyed top.0 top.1
-      (λ w k. (
-        λ y. (top.2 w k).0 (inr (refl, y.1)),
-        λ y. (tt, elim ((top.2 w k).1 y) [ inl z ↦ absurd (let b : n < n = had-below w k n a z in omega arith) | inr z ↦ z.1 ]),
-      ))
-      (keyed-path a
-      (λ i b.
-      let s = f i (omega arith) in (
-        s.0,
-        s.1,
-        λ w k. (
-          λ y. (s.2 w k).0 (inl y),
-          λ y. elim ((s.2 w k).1 y) [ inl z ↦ z | inr z ↦ absurd (let d : i ≡ n = z.0 in omega arith) ],
-        ),
-      ))
+      at_keyed top.0 top.1 (on-top a top.2)
+      (keyed-path a (λ i b. let s = f i (omega arith) in (s.0, s.1, lower a b s.2))
       (keyed-left x)) (keyed-right x)
   keyed-path (right_none g a) f x = at_blank (keyed-left x) (keyed-path a f (keyed-right x))
-  keyed-path {keys} (right_some {n} e g a) f x =
+  keyed-path (right_some {n} e g a) f x =
       let top = f n (omega arith) in
-      at_keyed top.0 top.1
-      (λ w k. (
-        λ y. (top.2 w k).0 (inr (refl, y.1)),
-        λ y. (tt, elim ((top.2 w k).1 y) [ inl z ↦ absurd (let b : n < n = had-below w k n a z in omega arith) | inr z ↦ z.1 ]),
-      ))
+      at_keyed top.0 top.1 (on-top a top.2)
       (keyed-left x)
-      (keyed-path a
-      (λ i b.
-      let s = f i (omega arith) in (
-        s.0,
-        s.1,
-        λ w k. (
-          λ y. (s.2 w k).0 (inl y),
-          λ y. elim ((s.2 w k).1 y) [ inl z ↦ z | inr z ↦ absurd (let d : i ≡ n = z.0 in omega arith) ],
-        ),
-      ))
+      (keyed-path a (λ i b. let s = f i (omega arith) in (s.0, s.1, lower a b s.2))
       (keyed-right x))
 
 -- RESOLUTIONS. A key of a resolution is the leaf key of somebody seated there, or a node key, and then everybody that its level was laid over is there still.
