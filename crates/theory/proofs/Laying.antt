@@ -92,26 +92,10 @@ module _ {K : Type 0} {m : ℕ} {own : K} {keys : ℕ → K} where
       {t u : Tree K} {i : ℕ} {p q : List Turn} → From m own keys t u i p → Over q p → AbovePath keys t u i p q
   unfolding parent_at
   parents-above here o = elim o [ ]
-  parents-above (in_left {r} {i} a) top =
-      record { half = r; beside = right_half; none = laid-blank keys i (resolution r); some = laid-keyed keys i (resolution r) }
-  parents-above (in_left {r} {i} a) (down o) =
-      let s = parents-above a o in
-      record {
-        half = s.half;
-        beside = under_left s.beside;
-        none = s.none;
-        some = λ f. let x = s.some f in (x.0, level-up i x.0 (resolution r) x.1, x.2);
-      }
-  parents-above (in_right {l} {i} a) top =
-      record { half = l; beside = left_half; none = laid-blank keys i (resolution l); some = laid-keyed keys i (resolution l) }
-  parents-above (in_right {l} {i} a) (down o) =
-      let s = parents-above a o in
-      record {
-        half = s.half;
-        beside = under_right s.beside;
-        none = s.none;
-        some = λ f. let x = s.some f in (x.0, level-up i x.0 (resolution l) x.1, x.2);
-      }
+  parents-above (in_left {r} {i} a) top = grind (arith, right_half, laid-blank, laid-keyed)
+  parents-above (in_left {r} {i} a) (down o) = grind (arith, under_left, level-up, parents-above a o)
+  parents-above (in_right {l} {i} a) top = grind (arith, left_half, laid-blank, laid-keyed)
+  parents-above (in_right {l} {i} a) (down o) = grind (arith, under_right, level-up, parents-above a o)
 
 pub over-maker :
     {K : Type 0} (m : ℕ) (own : K) (keys : ℕ → K) (t : Tree K) (p : List Turn) → SitsOnlyAt m p t → OverMaker m own keys t p

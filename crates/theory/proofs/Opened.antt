@@ -1,6 +1,6 @@
 -- What is computed is where a talk secret lies open.
 -- Assumes nothing.
-use Rattle.std.proofs.Common.{◌≡◌, ℕ, zero, suc, Bool, false, not, ◌&&◌, ◌||◌, T, eqb, List, [], ◌∷◌, refl, subst, ap₂, inl, inr, eqb→eq, T_not}
+use Rattle.std.proofs.Common.{◌≡◌, ℕ, zero, suc, Bool, false, not, ◌&&◌, ◌||◌, T, eqb, List, [], ◌∷◌, refl, subst, ap₂, inl, inr, eqb→eq, T_not, arith}
 use mathlib.Core.List.{Memᴰ}
 use lib.Dec.{not_T, eqb_refl}
 use Rattle.theory.specs.Secrets.{Secret}
@@ -17,8 +17,7 @@ unfolding same_secrets
 same-secrets [] [] h = refl
 same-secrets [] (t ∷ ts) h = absurd h
 same-secrets (s ∷ ss) [] h = absurd h
-same-secrets (s ∷ ss) (t ∷ ts) h =
-    ap₂ ◌∷◌ (same-is s t (and_left (same s t) (same_secrets ss ts) h)) (same-secrets ss ts (and_right (same s t) (same_secrets ss ts) h))
+same-secrets (s ∷ ss) (t ∷ ts) h = search (same-is, and_left, and_right, same-secrets ss ts)
 
 secrets-same : (ss : List Secret) → T (same_secrets ss ss)
 unfolding same_secrets
@@ -42,41 +41,10 @@ module _ {X : Type 0} (test : X → Bool) (some : List X → Bool) (none : some 
 module _ (f : ℕ) (commits : ℕ → Commit) where
   -- the test of one exposure and the record of its facts
   is-given : (n : ℕ) (x : Exposure) → T (is_given f commits n x) → Gives f commits n x
-  is-given n x t =
-      let g = group f commits n in
-      let h = group f commits (suc n) in
-      let r = group f commits x.when in
-      let a = allowed (commits n) g in
-      let b = not (eqb (commits n).committer x.who) in
-      let c = seated x.who h.tree in
-      let d = seated x.who r.tree in
-      let e = same_secrets (leaf_key x.who h.tree) (leaf_key x.who r.tree) in
-      let front : T (a && b) = and_left (a && b) ((c && d) && e) t in
-      let back : T ((c && d) && e) = and_right (a && b) ((c && d) && e) t in
-      let seats : T (c && d) = and_left (c && d) e back in
-      record {
-        took = and_left a b front;
-        other = λ p. T_not (eqb (commits n).committer x.who) (and_right a b front) (subst (λ m. T (eqb (commits n).committer m)) p (eqb_refl (commits n).committer));
-        reached = and_left c d seats;
-        read = and_right c d seats;
-        same = same-secrets (leaf_key x.who h.tree) (leaf_key x.who r.tree) (and_right (c && d) e back);
-      }
+  is-given n x t = grind (arith, leaf_key, and_left, and_right, eqb_refl, same-secrets)
 
   given_is : (n : ℕ) (x : Exposure) → Gives f commits n x → T (is_given f commits n x)
-  given_is n x v =
-      let g = group f commits n in
-      let h = group f commits (suc n) in
-      let r = group f commits x.when in
-      let a = allowed (commits n) g in
-      let b = not (eqb (commits n).committer x.who) in
-      let c = seated x.who h.tree in
-      let d = seated x.who r.tree in
-      let k = leaf_key x.who h.tree in
-      let l = leaf_key x.who r.tree in
-      let other : T b = not_T (eqb (commits n).committer x.who) (λ t. v.other (eqb→eq (commits n).committer x.who t)) in
-      let keys : T (same_secrets k l) = subst (λ ss. T (same_secrets k ss)) v.same (secrets-same k) in
-      both (a && b) ((c && d) && same_secrets k l) (both a b v.took other)
-      (both (c && d) (same_secrets k l) (both c d v.reached v.read) keys)
+  given_is n x v = grind (arith, leaf_key, not_T, secrets-same, both)
 
   -- an exposure in the epoch leaves it open
   read-open : (es : List Exposure) (n : ℕ) → T (some_read f commits n es) → Open f commits es n
@@ -115,9 +83,7 @@ module _ (f : ℕ) (commits : ℕ → Commit) where
   here-is : (es : List Exposure) (n : ℕ) → T (some_read f commits n es) → T (is_open f commits es n)
   unfolding is_open
   here-is es zero h = h
-  here-is es (suc n) h =
-      or_left (some_read f commits (suc n) es)
-      (is_open f commits es n && (some_given f commits n es || not (allowed (commits n) (group f commits n)))) h
+  here-is es (suc n) h = search (or_left)
 
   open_is : {es : List Exposure} {n : ℕ} → Open f commits es n → T (is_open f commits es n)
   unfolding is_open some_given
@@ -127,11 +93,7 @@ module _ (f : ℕ) (commits : ℕ → Commit) where
       or_right (some_read f commits (suc n) es) (is_open f commits es n && (some_given f commits n es || refused))
       (both (is_open f commits es n) (some_given f commits n es || refused) (open_is o)
       (or_left (some_given f commits n es) refused (finds (is_given f commits n) (some_given f commits n) refl (λ x xs. refl) m (given_is n x v))))
-  open_is {es} (idle {n} o r) =
-      let refused = not (allowed (commits n) (group f commits n)) in
-      or_right (some_read f commits (suc n) es) (is_open f commits es n && (some_given f commits n es || refused))
-      (both (is_open f commits es n) (some_given f commits n es || refused) (open_is o)
-      (or_right (some_given f commits n es) refused (not_T (allowed (commits n) (group f commits n)) r)))
+  open_is {es} (idle {n} o r) = search (or_right, both, not_T, open_is o)
 
 pub opened_is : OpenIs
 opened_is f commits es n = (is_open-sound f commits es n, open_is f commits)
