@@ -26,7 +26,7 @@ pub added_full : {K : Type 0} (m : ℕ) (k : K) (t : Tree K) → T (full t) → 
 unfolding added full
 added_full m k (leaf blank_leaf) h = elim h [ ]
 added_full m k (leaf (occupied w j)) h = refl
-added_full m k (node c l r) h = grind (arith, is_true, and_left, and_right)
+added_full m k (node c l r) h = grind arith
 
 -- every other tree has a place
 pub adding : {K : Type 0} (m : ℕ) (k : K) (t : Tree K) → T (not (full t)) → (p : List Turn) × Adding m k t (added m k t) p

@@ -31,7 +31,7 @@ pub removed-fewer : {K : Type 0} (m : ℕ) (t : Tree K) → T (seated m t) → m
 unfolding members seated
 removed-fewer m (leaf blank_leaf) h = absurd h
 removed-fewer m (leaf (occupied w k)) h = unfold removed in rw (is_true (eqb w m) h) (omega arith)
-removed-fewer m (node c l r) h = grind (arith, removed-node, removed-few, or_cases, removed-fewer m l, removed-fewer m r)
+removed-fewer m (node c l r) h = grind (arith, removed-node, removed-few, removed-fewer m l, removed-fewer m r)
 
 -- as many different members as are named need as many leaves
 pub named-few :
@@ -64,12 +64,12 @@ leaf-one {K} m (occupied w k) = by_cond (λ (ks : List K). length ks ≤ 1) (eqb
 pub leaf_key-one : {K : Type 0} (m : ℕ) {t : Tree K} → Sound t → length (leaf_key m t) ≤ 1
 unfolding leaf_key
 leaf_key-one m (at_leaf {x}) = leaf-one m x
-leaf_key-one m (at_node {l} {r} f g p q) = search (arith, common_steps, decided, leaf_key-absent, not_T, leaf_key, leaf_key-one m p, leaf_key-one m q)
+leaf_key-one m (at_node {l} {r} f g p q) = search (arith, common_steps, leaf_key-absent, leaf_key-one m p, leaf_key-one m q)
 
 pub leaf_keys-few : {K : Type 0} (ms : List ℕ) {t : Tree K} → Sound t → length (leaf_keys ms t) ≤ length ms
 unfolding leaf_keys
 leaf_keys-few [] s = omega arith
-leaf_keys-few (m ∷ ms) {t} s = search (arith, common_steps, leaf_key, leaf_key-one, leaf_keys-few ms s)
+leaf_keys-few (m ∷ ms) {t} s = search (arith, common_steps, leaf_key-one, leaf_keys-few ms s)
 
 -- a part has no more keys in its resolution than members
 keyed-few :
@@ -106,7 +106,7 @@ pub seated-many : {K : Type 0} (m : ℕ) (t : Tree K) → T (seated m t) → 1 �
 unfolding members seated
 seated-many m (leaf blank_leaf) h = absurd h
 seated-many m (leaf (occupied w k)) h = omega arith
-seated-many m (node c l r) h = grind (arith, or_cases, seated-many m l, seated-many m r)
+seated-many m (node c l r) h = grind (arith, seated-many m l, seated-many m r)
 
 pub path-few :
     {K : Type 0} {m : ℕ} {own : K} {keys : ℕ → K} {t u : Tree K} {i : ℕ} {ts : List (Target K)} →

@@ -46,7 +46,7 @@ module _ {A : Type 0} (P : A → Type 0) where
   all_one x p s d = rw (Memᴰ.eq_of_singleton d) p
 
   pub all_cons : (x : A) (xs : List A) → P x → All P xs → All P (x ∷ xs)
-  all_cons x xs p f s d = grind (arith, Memᴰ.cases_cons)
+  all_cons x xs p f s d = grind arith
 
   pub all_nil : All P []
   all_nil s d = absurd (Memᴰ.not-nil d)
@@ -67,13 +67,13 @@ unfolding seated leaf_key
 own_held m (leaf blank_leaf) h = absurd h
 own_held m (leaf (occupied w k)) h =
     unfold held in rw (is_true (eqb w m) h) (k, Memᴰ.head refl, Memᴰ.head refl)
-own_held m (node c l r) h = grind (arith, decided, Memᴰ.append_left, leaf_key, held-left, Memᴰ.append_right, in-other, held-right, own_held m l, own_held m r)
+own_held m (node c l r) h = grind (arith, Memᴰ.append_left, held-left, Memᴰ.append_right, held-right, own_held m l, own_held m r)
 
 -- the leaf keys of several hold those of each
 among : {K : Type 0} (m : ℕ) (ms : List ℕ) (t : Tree K) {s : K} → T (is_unmerged m ms) → Memᴰ s (leaf_key m t) → Memᴰ s (leaf_keys ms t)
 unfolding is_unmerged leaf_keys
 among m [] t u d = absurd u
-among m (w ∷ ms) t {s} u d = grind (arith, or_cases, Memᴰ.append_left, Memᴰ.append_right, leaf_key, among m ms t)
+among m (w ∷ ms) t {s} u d = grind (arith, Memᴰ.append_left, Memᴰ.append_right, among m ms t)
 
 -- the node key of a parent, where it isn't unmerged
 key-held : {K : Type 0} (m : ℕ) (k : K) (un : List ℕ) → T (not (is_unmerged m un)) → node_key_held m (keyed k un) ≡ k ∷ []
@@ -83,14 +83,14 @@ key-held m k un h = rw (is_false (is_unmerged m un) h)
 top-held :
     {K : Type 0} (m : ℕ) (k : K) (un : List ℕ) (l r : Tree K) → T (seated m l || seated m r) → T (not (is_unmerged m un)) →
     Memᴰ k (held m (node (keyed k un) l r))
-top-held m k un l r h n = grind (arith, decided, held-left, key-held, Memᴰ.head, held-right, in-other)
+top-held m k un l r h n = grind (arith, held-left, Memᴰ.head, held-right)
 
 pub resolution-held : {K : Type 0} (m : ℕ) (t : Tree K) → T (seated m t) → Common (resolution t) (held m t)
 unfolding seated resolution
 resolution-held m (leaf blank_leaf) h = absurd h
 resolution-held m (leaf (occupied w k)) h =
     unfold held in rw (is_true (eqb w m) h) (k, Memᴰ.head refl, Memᴰ.head refl)
-resolution-held m (node blank_parent l r) h = grind (arith, decided, Memᴰ.append_left, held-left, in-other, Memᴰ.append_right, held-right, resolution-held m l, resolution-held m r)
+resolution-held m (node blank_parent l r) h = grind (arith, Memᴰ.append_left, held-left, Memᴰ.append_right, held-right, resolution-held m l, resolution-held m r)
 resolution-held m (node (keyed k un) l r) h =
     elim (decided (is_unmerged m un)) [
       | inl u ↦
@@ -249,10 +249,10 @@ blank-room (node c l r) = not-both (full (blank_tree l)) (full (blank_tree r)) (
 
 pub grown-room : {K : Type 0} (t : Tree K) → T (not (full (grown t)))
 unfolding full
-grown-room t = grind (arith, decided, grown-full, is_true, blank-room, grown-roomy)
+grown-room t = grind (arith, blank-room)
 
 pub held_grown : {K : Type 0} (m : ℕ) (t : Tree K) → T (seated m t) → held m (grown t) ≡ held m t
-held_grown m t s = grind (arith, decided, grown-full, held-left, grown-roomy)
+held_grown m t s = grind (arith, held-left)
 
 -- a removal seats nobody
 not_left : {K : Type 0} (m x : ℕ) (t : Tree K) → T (not (seated m t)) → T (not (seated m (removed x t)))
@@ -324,7 +324,7 @@ stock-absent m g h = rw (is_false (seated m g.tree) h)
 -- with the epoch's secret and the keys, all of it
 stock-known :
     (P : Secret → Type 0) (m : ℕ) (g : Group) → P (talk g.secret) → P (seed g.secret) → All P (held m g.tree) → All P (stock m g)
-stock-known P m g a b f = grind (arith, decided, stock-seated, all_cons, stock-absent, all_nil)
+stock-known P m g a b f = grind arith
 
 -- what a welcome holds
 welcome-holds : (P : Secret → Type 0) (a : Change) (e : ℕ) (s : Secret) → P s → All (λ (b : Box). P b.holds) (welcome a e s)
@@ -385,7 +385,7 @@ module _ (c : Commit) (g : Group) where
   mine-path = known-ups [] mine (path_key c next) (had (Memᴰ.tail (Memᴰ.head refl)))
 
   mine-secret : Permitted g.epoch c g.tree → Knows [] mine after.secret
-  mine-secret ok = grind (arith, mixed, had, Memᴰ.tail, stock-seated, Memᴰ.head, mine-path)
+  mine-secret ok = grind (arith, mixed, had, Memᴰ.tail, Memᴰ.head, mine-path)
 
   -- it makes all that it then holds, with no box
   pub make-commit : Permitted g.epoch c g.tree → All (Knows [] mine) (stock c.committer after)
@@ -475,10 +475,10 @@ module _ (f : ℕ) (commits : ℕ → Commit) (n : ℕ) where
   now-permitted = permitted (group f commits n).epoch (commits n) (group f commits n).tree
 
 pub follows : Follows
-follows f commits n m h s other x d = grind (arith, decided, message-done, follow-commit, now-permitted, group-done, unequal, had, group-refused)
+follows f commits n m h s other x d = grind (arith, message-done, follow-commit, now-permitted, group-done, unequal, had, group-refused)
 
 pub makes : Makes
-makes f commits n = grind (arith, decided, make-commit, now-permitted, group-done, make-sealed, message-done, had, Memᴰ.tail, group-refused, Memᴰ.not-nil, message-refused)
+makes f commits n = grind (arith, make-commit, now-permitted, group-done, make-sealed, message-done, had, Memᴰ.tail, group-refused, Memᴰ.not-nil, message-refused)
 
 pub enters : Enters
 enters f commits n j e a s d = grind (arith, message-done, enter-any, now-permitted, group-done)

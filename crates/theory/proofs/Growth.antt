@@ -41,7 +41,7 @@ or-none (Some i) n = refl
 
 pub doubled : {K : Type 0} (t : Tree K) → T (full t) → Doubled t
 unfolding leaf_at parent_at position
-doubled t h = grind (arith, grown-full, not_T, blank-deserted, sits-seated, blank-bare, blank-position, or-none)
+doubled t h = grind (arith, blank-deserted, sits-seated, blank-bare, blank-position)
 
 pub growth : Growth
 growth t = (doubled t, grown-roomy t)

@@ -24,8 +24,8 @@ module _ (f : ℕ) (commits : ℕ → Commit) where
   -- THE PAST. Where a talk secret lies open, a handset was read in that epoch or before.
   read-before : {es : List Exposure} {n : ℕ} → Open f commits es n → (x : Exposure) × Memᴰ x es × ((at f commits x.when).epoch ≤ (at f commits n).epoch)
   read-before (here n x m s e) = (x, m, omega arith)
-  read-before (on {n} o x m g) = grind (arith, at, epochs-grow, read-before o)
-  read-before (idle {n} o g) = grind (arith, at, epochs-grow, read-before o)
+  read-before (on {n} o x m g) = grind (arith, epochs-grow, read-before o)
+  read-before (idle {n} o g) = grind (arith, epochs-grow, read-before o)
 
   -- LEAF KEYS. After a commit each is as before, or of the new epoch.
   leaf-after : (n : ℕ) {w : ℕ} {k : Secret} → Has w k (at f commits (suc n)).tree → Has w k (at f commits n).tree ⊎ (epoch_of k ≡ next f commits n)
@@ -84,7 +84,7 @@ module _ (f : ℕ) (commits : ℕ → Commit) where
   not-healed :
       {es : List Exposure} {n : ℕ} → (N : ℕ) → (heal : (x : Exposure) → Memᴰ x es → Healed f commits N x) → Open f commits es n →
       (x : Exposure) × (m : Memᴰ x es) × ((at f commits n).epoch ≤ (at f commits (heal x m).commit).epoch)
-  not-healed N heal (here n x m s e) = grind (arith, at, epochs-grow)
+  not-healed N heal (here n x m s e) = grind (arith, epochs-grow)
   not-healed N heal (on {n} o x m g) =
       let z = heal x m in
       elim (cases_lt z.commit (suc n)) [
@@ -97,10 +97,10 @@ module _ (f : ℕ) (commits : ℕ → Commit) where
             absurd (omega arith))
         | inr l ↦ (x, m, epochs-grow f commits (suc n) z.commit l)
       ]
-  not-healed N heal (idle {n} o g) = grind (arith, at, history.refused, not-healed N heal o)
+  not-healed N heal (idle {n} o g) = grind (arith, history.refused, not-healed N heal o)
 
 pub past : Past
-past f commits es until n later k = grind (arith, read-before, main, at)
+past f commits es until n later k = grind (arith, read-before, main)
 
 pub heals : Heals
 heals f commits es until n heal k =

@@ -24,7 +24,7 @@ level-height (suc d) (node p l r) e = ap suc (level-height d l (left-of (is_leve
 -- below its top, what is held of a tree is what is held of the half that m sits in
 below_top : {K : Type 0} (m h : ℕ) (p : Parent K) (l r : Tree K) → (h ≡ suc (height l) → ⊥) → held_at m h (node p l r) ≡ cond (seated m l) (held_at m h l) (held_at m h r)
 unfolding held_at
-below_top m h p l r off = search (cond-false, ne_eqb)
+below_top m h p l r off = search ne_eqb
 
 both : {K : Type 0} (b : Bool) (u v x y : List K) → cond b u v ++ cond b x y ≡ cond b (u ++ x) (v ++ y)
 both true u v x y = refl
@@ -33,7 +33,7 @@ both false u v x y = refl
 down-below : {K : Type 0} (m h : ℕ) (p : Parent K) (l r : Tree K) → h ≤ height l → held_down m h (node p l r) ≡ cond (seated m l) (held_down m h l) (held_down m h r)
 unfolding held_down
 down-below m zero p l r e = below_top m zero p l r (λ q. omega arith)
-down-below m (suc h) p l r e = grind (arith, below_top, both, down-below m h p l r)
+down-below m (suc h) p l r e = grind (arith, below_top, down-below m h p l r)
 
 -- who isn't seated holds nothing
 absent : {K : Type 0} (m : ℕ) (t : Tree K) → seated m t ≡ false → held m t ≡ []
@@ -57,7 +57,7 @@ unfolding held_down held_at held is_level
 held-by-height zero m (leaf x) e = refl
 held-by-height zero m (node p l r) e = absurd e
 held-by-height (suc d) m (leaf x) e = absurd e
-held-by-height (suc d) m (node p l r) e = grind (arith, left-of, right_of, level-height, cond-true, eq-eqb, down-below, joined, absent, held-by-height d m l, held-by-height d m r)
+held-by-height (suc d) m (node p l r) e = grind (arith, level-height, down-below, absent, held-by-height d m l, held-by-height d m r)
 
 pub held_by_height_holds : HeldByHeight
 held_by_height_holds d m t e = held-by-height d m t e

@@ -23,7 +23,7 @@ asked c g h =
 -- the newcomer of an addition isn't seated
 new-absent :
     {K : Type 0} (w m : ℕ) (t : Tree K) → T (not (is_some (change_refusal w (add m) t))) → T (not (seated m (grown t)))
-new-absent w m t h = grind (arith, nor-left, not-refused, not_T, has-seated, grown-has, seated-has)
+new-absent w m t h = grind (arith, has-seated, grown-has, seated-has)
 
 module _ {K : Type 0} where
   pub readied-once :
@@ -163,14 +163,14 @@ module _ (f : ℕ) (commits : ℕ → Commit) where
 
   pub epochs-grow : (m n : ℕ) → m ≤ n → (at m).epoch ≤ (at n).epoch
   epochs-grow m zero h = let e : m ≡ 0 = omega arith in rw e (omega arith)
-  epochs-grow m (suc n) h = grind (arith, cases_lt, epoch-step, epochs-grow m n)
+  epochs-grow m (suc n) h = grind (arith, epoch-step, epochs-grow m n)
 
   later : (m n : ℕ) → T (done m) → m < n → (at m).epoch < (at n).epoch
   later m n h l = grind (arith, epochs-grow, epoch-after)
 
   -- so an epoch has one commit
   pub one-commit : (m n : ℕ) → T (done m) → T (done n) → (at m).epoch ≡ (at n).epoch → m ≡ n
-  one-commit m n h g e = grind (arith, cases_lt, later)
+  one-commit m n h g e = grind (arith, later)
 
   -- an epoch's secret has as many epochs mixed in
   pub mixes-epoch : (n : ℕ) → mixes (at n).secret ≡ (at n).epoch
@@ -258,7 +258,7 @@ module _ (f : ℕ) (commits : ℕ → Commit) where
   pub same-level :
       (c d i j : ℕ) → T (done c) → T (done d) →
       ups i (path_key (commits c) (next c)) ≡ ups j (path_key (commits d) (next d)) → (c ≡ d) × (i ≡ j)
-  same-level c d i j g h e = grind (arith, same-ups, path_secret, one-commit)
+  same-level c d i j g h e = grind (arith, same-ups, one-commit)
 
   pub had-same : (c d i j : ℕ) (w : ℕ) (k : Secret) → (c ≡ d) × (i ≡ j) → HadAt c i w k → HadAt d j w k
   had-same c d i j w k e h = subst₂ (λ x y. HadAt x y w k) e.0 e.1 h

@@ -65,4 +65,4 @@ pub stock-cases :
     {s : Secret} (m : ℕ) (g : Group) → Memᴰ s (stock m g) →
     T (seated m g.tree)
     × ((s ≡ talk g.secret) ⊎ ((s ≡ seed g.secret) ⊎ (Has m s g.tree ⊎ Holds m s g.tree)))
-stock-cases {s} m g x = grind (arith, Memᴰ.cases_cons, held-cases, Memᴰ.not-nil)
+stock-cases {s} m g x = grind (arith, held-cases)

@@ -102,9 +102,9 @@ module _ {K : Type 0} {m : ℕ} {own : K} {keys : ℕ → K} where
     had-up i j (elsewhere g) h p q = elim h [ ]
     had-up i j (here g) h p q = elim h [ ]
     had-up i j (left_none g a) h p q = had-up i j a h p q
-    had-up i j (left_some {n} e g a) h p q = grind (arith, cases_lt, on_left, had-has, had-up i j a)
+    had-up i j (left_some {n} e g a) h p q = grind (arith, on_left, had-has, had-up i j a)
     had-up i j (right_none g a) h p q = had-up i j a h p q
-    had-up i j (right_some {n} e g a) h p q = grind (arith, cases_lt, on_right, had-has, had-up i j a)
+    had-up i j (right_some {n} e g a) h p q = grind (arith, on_right, had-has, had-up i j a)
 
   module _ {w : ℕ} {k : K} where
     -- after a path its maker has the new key, and everybody else the old one
@@ -137,7 +137,7 @@ pub record Sealing {K : Type 0} (m : ℕ) (t : Tree K) (b : Target K) (got : ℕ
 of-sealed :
     {K : Type 0} {b : Target K} (n : ℕ) (ks : List K) → Memᴰ b (sealed_to n ks) →
     Memᴰ b.key ks × (b.level ≡ n)
-of-sealed {K} n ks x = grind (arith, Memᴰ.of_map, Memᴰ.cast)
+of-sealed {K} n ks x = grind (arith, Memᴰ.of_map)
 
 module _ {K : Type 0} {m : ℕ} {own : K} {keys : ℕ → K} {b : Target K} where
   pub path-target :
@@ -146,7 +146,7 @@ module _ {K : Type 0} {m : ℕ} {own : K} {keys : ℕ → K} {b : Target K} wher
   unfolding Had
   path-target (elsewhere g) o x = absurd (Memᴰ.not-nil x)
   path-target (here g) o x = absurd (Memᴰ.not-nil x)
-  path-target (left_none {ts} g a) (at_node f p q) x = search (arith, common_steps, Memᴰ.append_cases, in_left, Memᴰ.not-nil, path-target a p)
+  path-target (left_none {ts} g a) (at_node f p q) x = search (arith, common_steps, in_left, path-target a p)
   path-target (left_some {l} {l'} {r} {n} {ts} {ks} e g a) (at_node f p q) x =
       elim (Memᴰ.append_cases ts x) [
         | inl y ↦
@@ -162,7 +162,7 @@ module _ {K : Type 0} {m : ℕ} {own : K} {keys : ℕ → K} {b : Target K} wher
               gets = λ w k h. inr (z.1, on_right h);
             })
       ]
-  path-target (right_none {ts} g a) (at_node f p q) x = search (arith, common_steps, Memᴰ.append_cases, in_right, Memᴰ.not-nil, path-target a q)
+  path-target (right_none {ts} g a) (at_node f p q) x = search (arith, common_steps, in_right, path-target a q)
   path-target (right_some {l} {r} {r'} {n} {ts} {ks} e g a) (at_node f p q) x =
       elim (Memᴰ.append_cases ts x) [
         | inl y ↦
@@ -187,7 +187,7 @@ merged-adding :
     ((w : ℕ) (k : K) → (T (not (is_unmerged w un)) × Has w k (node (keyed j un) l r)) ↔ had w k) →
     (w : ℕ) (k : K) → (T (not (is_unmerged w (m ∷ un))) × Has w k (node (keyed j (m ∷ un)) l' r')) ↔ had w k
 unfolding is_unmerged
-merged-adding {m} {j} {un} {l} {r} had a h f w k = grind (arith, nor-left, adding-has, eqb_refl, nor-right, nor, not_T, has-seated, has-adding)
+merged-adding {m} {j} {un} {l} {r} had a h f w k = grind (arith, adding-has, has-seated, has-adding)
 
 -- the level that a path lays on top of those below it, given what was kept of both: who sits under it, and that the others stay
 module _ {K : Type 0} {m : ℕ} {own : K} {keys : ℕ → K} {n : ℕ} {t u : Tree K} {ts : List (Target K)} (a : Path m own keys t u n ts) where

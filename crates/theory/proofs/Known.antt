@@ -17,7 +17,7 @@ unfolding same_numbers
 same-numbers [] [] h = refl
 same-numbers [] (y ∷ ys) h = absurd h
 same-numbers (x ∷ xs) [] h = absurd h
-same-numbers (x ∷ xs) (y ∷ ys) h = grind (arith, and_left, and_right, same-numbers xs ys)
+same-numbers (x ∷ xs) (y ∷ ys) h = grind (arith, same-numbers xs ys)
 
 numbers-same : (xs : List ℕ) → T (same_numbers xs xs)
 unfolding same_numbers
@@ -80,7 +80,7 @@ spelled (lock s) (talk t) xs ys e = absurd (clash 2 5 tt (front e))
 spelled (mix s s') (drawn q n f) xs ys e = absurd (clash 3 0 tt (front e))
 spelled (mix s s') (up t) xs ys e = absurd (clash 3 1 tt (front e))
 spelled (mix s s') (lock t) xs ys e = absurd (clash 3 2 tt (front e))
-spelled (mix s s') (mix t t') xs ys e = search (arith, common_steps, behind, spelled s t, spelled s' t' xs ys)
+spelled (mix s s') (mix t t') xs ys e = search (arith, common_steps, spelled s t, spelled s' t' xs ys)
 spelled (mix s s') (seed t) xs ys e = absurd (clash 3 4 tt (front e))
 spelled (mix s s') (talk t) xs ys e = absurd (clash 3 5 tt (front e))
 spelled (seed s) (drawn q n f) xs ys e = absurd (clash 4 0 tt (front e))
@@ -105,7 +105,7 @@ same_refl s = numbers-same (numbers s)
 pub is-in : (s : Secret) (ks : List Secret) → T (is_in s ks) → Memᴰ s ks
 unfolding is_in
 is-in s [] h = absurd h
-is-in s (k ∷ ks) h = grind (arith, or_cases, Memᴰ.head, same-is, Memᴰ.tail, is-in s ks)
+is-in s (k ∷ ks) h = grind (arith, Memᴰ.head, same-is, Memᴰ.tail, is-in s ks)
 
 pub in_is : {s : Secret} {ks : List Secret} → Memᴰ s ks → T (is_in s ks)
 unfolding is_in
@@ -116,11 +116,11 @@ in_is {s} (Memᴰ.tail {x} {xs} d) = or_right (same s x) (is_in s xs) (in_is d)
 pub made-known : (ks : List Secret) (s : Secret) → T (made ks s) → Knows [] ks s
 unfolding made
 made-known ks (drawn p m e) h = had (is-in (drawn p m e) ks h)
-made-known ks (up s) h = grind (arith, or_cases, had, is-in, raise, made-known ks s)
-made-known ks (lock s) h = grind (arith, or_cases, had, is-in, locked, made-known ks s)
-made-known ks (mix s t) h = grind (arith, or_cases, had, is-in, mixed, and_left, and_right, made-known ks s, made-known ks t)
-made-known ks (seed s) h = grind (arith, or_cases, had, is-in, seeded, made-known ks s)
-made-known ks (talk s) h = grind (arith, or_cases, had, is-in, talked, made-known ks s)
+made-known ks (up s) h = grind (arith, had, is-in, raise, made-known ks s)
+made-known ks (lock s) h = grind (arith, had, is-in, locked, made-known ks s)
+made-known ks (mix s t) h = grind (arith, had, is-in, mixed, made-known ks s, made-known ks t)
+made-known ks (seed s) h = grind (arith, had, is-in, seeded, made-known ks s)
+made-known ks (talk s) h = grind (arith, had, is-in, talked, made-known ks s)
 
 made_in : (ks : List Secret) (s : Secret) → T (is_in s ks) → T (made ks s)
 unfolding made
@@ -200,21 +200,21 @@ opens-sound all ks (b ∷ bs) f =
 pub opens-all : (ks : List Secret) {b : Box} {bs : List Box} → Memᴰ b bs → T (made ks b.key) → Memᴰ b.holds (opens ks bs)
 opens-all ks {b} (Memᴰ.head {x} {xs} e) h =
     rw (opens-yes ks x xs (rw e at h)) (Memᴰ.head (ap (λ (y : Box). y.holds) e))
-opens-all ks (Memᴰ.tail {x} {xs} d) h = grind (arith, decided, opens-yes, Memᴰ.tail, opens-no, opens-all ks d h)
+opens-all ks (Memᴰ.tail {x} {xs} d) h = grind (arith, opens-yes, Memᴰ.tail, opens-no, opens-all ks d h)
 
 opens-few : (ks : List Secret) (bs : List Box) → length (opens ks bs) ≤ length bs
 opens-few ks [] = unfold opens in omega arith
-opens-few ks (b ∷ bs) = grind (arith, decided, opens-yes, opens-no, opens-few ks bs)
+opens-few ks (b ∷ bs) = grind (arith, opens-yes, opens-no, opens-few ks bs)
 
 -- with more to make from it opens no fewer boxes, and if it opens no more, then the same ones
 module _ (ks js : List Secret) (more : (s : Secret) → T (made ks s) → T (made js s)) where
   opens-more : (bs : List Box) → length (opens ks bs) ≤ length (opens js bs)
   opens-more [] = unfold opens in omega arith
-  opens-more (b ∷ bs) = grind (arith, decided, opens-yes, opens-no, opens-more bs)
+  opens-more (b ∷ bs) = grind (arith, opens-yes, opens-no, opens-more bs)
 
   opens-same :
       {b : Box} {bs : List Box} → length (opens js bs) ≤ length (opens ks bs) → Memᴰ b bs → T (made js b.key) → T (made ks b.key)
-  opens-same {b} le (Memᴰ.head {x} {xs} e) k = grind (arith, decided, opens-yes, opens-no, opens-more)
+  opens-same {b} le (Memᴰ.head {x} {xs} e) k = grind (arith, opens-yes, opens-no, opens-more)
   opens-same {b} le (Memᴰ.tail {x} {xs} d) k =
       let rest = opens-more xs in
       opens-same (tail-le x xs le) d k
@@ -272,10 +272,10 @@ module _ (bs : List Box) where
   rounds-settle : (n : ℕ) (ks : List Secret) → length bs < n + length (opens ks bs) → Saturated bs (rounds n bs ks)
   unfolding rounds
   rounds-settle zero ks h = let few = opens-few ks bs in absurd (omega arith)
-  rounds-settle (suc n) ks h = grind (arith, cases_lt, rounds-settled, grow-settles, rounds-settle n)
+  rounds-settle (suc n) ks h = grind (arith, rounds-settled, grow-settles, rounds-settle n)
 
   pub rounds-saturated : (ks : List Secret) → Saturated bs (rounds (length bs) bs ks)
-  rounds-saturated ks = grind (arith, cases_lt, rounds-settle, rounds-settled, none-settled)
+  rounds-saturated ks = grind (arith, rounds-settle, rounds-settled, none-settled)
 
   pub rounds-sound : (n : ℕ) (old ks : List Secret) → All (Knows bs old) ks → All (Knows bs old) (rounds n bs ks)
   unfolding rounds

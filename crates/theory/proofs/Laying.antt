@@ -92,10 +92,10 @@ module _ {K : Type 0} {m : ℕ} {own : K} {keys : ℕ → K} where
       {t u : Tree K} {i : ℕ} {p q : List Turn} → From m own keys t u i p → Over q p → AbovePath keys t u i p q
   unfolding parent_at
   parents-above here o = elim o [ ]
-  parents-above (in_left {r} {i} a) top = grind (arith, right_half, laid-blank, laid-keyed)
-  parents-above (in_left {r} {i} a) (down o) = grind (arith, under_left, level-up, parents-above a o)
-  parents-above (in_right {l} {i} a) top = grind (arith, left_half, laid-blank, laid-keyed)
-  parents-above (in_right {l} {i} a) (down o) = grind (arith, under_right, level-up, parents-above a o)
+  parents-above (in_left {r} {i} a) top = grind (arith, right_half)
+  parents-above (in_left {r} {i} a) (down o) = grind (arith, under_left, parents-above a o)
+  parents-above (in_right {l} {i} a) top = grind (arith, left_half)
+  parents-above (in_right {l} {i} a) (down o) = grind (arith, under_right, parents-above a o)
 
 pub over-maker :
     {K : Type 0} (m : ℕ) (own : K) (keys : ℕ → K) (t : Tree K) (p : List Turn) → SitsOnlyAt m p t → OverMaker m own keys t p

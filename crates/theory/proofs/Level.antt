@@ -32,7 +32,7 @@ level-height (at_node a b) = ap suc (level-height a)
 pub full-members : {K : Type 0} {d : ℕ} {t : Tree K} → Level d t → T (full t) → members t ≡ 2 ^ d
 unfolding full members
 full-members (at_leaf {x}) h = rw (is_false (is_blank x) h)
-full-members (at_node {d} {l} {r} a b) h = grind (arith, and_left, and_right, full-members a, full-members b)
+full-members (at_node {d} {l} {r} a b) h = grind (arith, full-members a, full-members b)
 
 -- A CHANGE keeps the depth, but for growing, which adds one.
 pub blank-level : {K : Type 0} {d : ℕ} {t : Tree K} → Level d t → Level d (blank_tree t)
@@ -97,7 +97,7 @@ readied-bounded :
     T (not (is_some (change_refusal w c t))) → Bounded t → Bounded (readied c fresh t)
 readied-bounded w renew fresh t h b = b
 readied-bounded w (remove m) fresh t h b = (b.0, removed-level m b.1, b.2)
-readied-bounded w (add m) fresh t h b = grind (arith, not-refused, grown-bounded, nleb→lt, added-level)
+readied-bounded w (add m) fresh t h b = grind (arith, grown-bounded, added-level)
 
 pub run-bounded : (f : ℕ) (commits : ℕ → Commit) (n : ℕ) → Bounded (group f commits n).tree
 run-bounded =

@@ -145,12 +145,12 @@ module _ {A B : Type 0} (f : A → B) where
   pub held-map : (m : ℕ) (t : Tree A) → held m (map_tree f t) ≡ map f (held m t)
   unfolding held map_tree
   held-map m (leaf x) = rw (at_map m x, key-map x) (push (map f) (is_at m x) (key_at x) [])
-  held-map m (node p l r) = grind (arith, seated-map, node_key_held-map, map-append, push, held-map m l, held-map m r)
+  held-map m (node p l r) = grind (arith, seated-map, held-map m l, held-map m r)
 
   pub held_at-map : (m h : ℕ) (t : Tree A) → held_at m h (map_tree f t) ≡ map f (held_at m h t)
   unfolding held_at map_tree
-  held_at-map m h (leaf x) = grind (arith, at_map, key-map, push)
-  held_at-map m h (node p l r) = grind (arith, height-map, seated-map, node_key_held-map, push, held_at-map m h l, held_at-map m h r)
+  held_at-map m h (leaf x) = grind arith
+  held_at-map m h (node p l r) = grind (arith, height-map, seated-map, held_at-map m h l, held_at-map m h r)
 
   -- CHANGED TREES.
   pub blank_tree-map : (t : Tree A) → blank_tree (map_tree f t) ≡ map_tree f (blank_tree t)
@@ -170,12 +170,12 @@ module _ {A B : Type 0} (f : A → B) where
   unfolding added map_tree
   added-map m k (leaf blank_leaf) = refl
   added-map m k (leaf (occupied w j)) = refl
-  added-map m k (node p l r) = grind (arith, full-map, unmerged_at-map, push, added-map m k l, added-map m k r)
+  added-map m k (node p l r) = grind (arith, full-map, added-map m k l, added-map m k r)
 
   pub removed-map : (m : ℕ) (t : Tree A) → removed m (map_tree f t) ≡ map_tree f (removed m t)
   unfolding removed map_tree
   removed-map m (leaf x) = rw (at_map m x) (ap leaf (push (map_leaf f) (is_at m x) blank_leaf x))
-  removed-map m (node p l r) = grind (arith, seated-map, push, removed-map m l, removed-map m r)
+  removed-map m (node p l r) = grind (arith, seated-map, removed-map m l, removed-map m r)
 
   pub readied-map : (c : Change) (fresh : A) (t : Tree A) → readied c (f fresh) (map_tree f t) ≡ map_tree f (readied c fresh t)
   readied-map renew fresh t = refl
@@ -199,7 +199,7 @@ module _ {A B : Type 0} (f : A → B) where
       (keys : ℕ → A) (x : Laid A) (other : List A) (put : Parent A → Tree A → Tree A) (put_b : Parent B → Tree B → Tree B) →
       ((q : Parent A) (t : Tree A) → put_b (map_parent f q) (map_tree f t) ≡ map_tree f (put q t)) →
       climbed (λ i. f (keys i)) (map_laid f x) (map f other) put_b ≡ map_laid f (climbed keys x other put)
-  climbed-map keys x other put put_b same = grind (arith, parent_laid-map, sealed-map, map-append, level_after-map)
+  climbed-map keys x other put put_b same = grind (arith, sealed-map, map-append)
 
   pub laid-map :
       (m : ℕ) (own : A) (keys : ℕ → A) (t : Tree A) →
@@ -228,7 +228,7 @@ module _ {A B : Type 0} (f : A → B) where
       rw (readied-map c.change fresh t) (laid-map c.committer own keys (readied c.change fresh t))
 
   pub natural : Natural f
-  natural = grind (arith, seated-map, full-map, members-map, leaves_map, height-map, level-map, position-map, refusal-map, well_formed-map, leaf_key, leaf_key-map, leaf_keys-map, resolution-map, held-map, held_at-map, blank_tree-map, grown-map, added-map, removed-map, readied-map, laid-map, laid_by-map)
+  natural = grind (arith, seated-map, full-map, members-map, leaves_map, height-map, level-map, position-map, well_formed-map, leaf_key-map, leaf_keys-map, resolution-map, held-map, held_at-map, blank_tree-map, grown-map, added-map, removed-map, laid-map)
 
 pub naturality : Naturality
 naturality = natural

@@ -41,10 +41,10 @@ module _ {X : Type 0} (test : X → Bool) (some : List X → Bool) (none : some 
 module _ (f : ℕ) (commits : ℕ → Commit) where
   -- the test of one exposure and the record of its facts
   is-given : (n : ℕ) (x : Exposure) → T (is_given f commits n x) → Gives f commits n x
-  is-given n x t = grind (arith, leaf_key, and_left, and_right, eqb_refl, same-secrets)
+  is-given n x t = grind (arith, and_left, and_right, same-secrets)
 
   given_is : (n : ℕ) (x : Exposure) → Gives f commits n x → T (is_given f commits n x)
-  given_is n x v = grind (arith, leaf_key, not_T, secrets-same, both)
+  given_is n x v = grind (arith, secrets-same)
 
   -- an exposure in the epoch leaves it open
   read-open : (es : List Exposure) (n : ℕ) → T (some_read f commits n es) → Open f commits es n

@@ -79,7 +79,7 @@ module _ {K : Type 0} {w : ℕ} where
       rw (absent-keys w l (not_T (seated w l) (λ s. f w s (has-seated h)))) (once-keys b h)
 
 pub once-length : {K : Type 0} (w : ℕ) {t : Tree K} → Once t → length (leaf_key w t) ≤ 1
-once-length w {t} o = grind (arith, decided, once-keys, seated-has, absent-keys)
+once-length w {t} o = grind (arith, once-keys, seated-has, absent-keys)
 
 -- A CHANGE seats nobody twice.
 blank-once : {K : Type 0} (t : Tree K) → Once (blank_tree t)

@@ -53,7 +53,7 @@ module _ {K : Type 0} {m : ℕ} where
   unfolding resolution seated
   reached (leaf blank_leaf) h = elim h [ ]
   reached (leaf (occupied w k)) h = (k, Memᴰ.head refl, inl (here (eqb→eq w m h) refl))
-  reached (node blank_parent l r) h = grind (arith, or_cases, Memᴰ.append_left, on_left, in_left, Memᴰ.append_right, on_right, in_right, reached l, reached r)
+  reached (node blank_parent l r) h = grind (arith, Memᴰ.append_left, on_left, in_left, Memᴰ.append_right, on_right, in_right, reached l, reached r)
   reached (node (keyed j un) l r) h =
       elim (decided (is_unmerged m un)) [
         | inl a ↦
@@ -83,7 +83,7 @@ module _ {K : Type 0} {m : ℕ} where
     pub node-held : {t : Tree K} → Once t → Holds m s t → Memᴰ s (held m t)
     unfolding seated
     node-held at_leaf h = elim h [ ]
-    node-held (at_node {l} {r} f x y) (at_top {j} {un} e g h) = grind (arith, decided, held-left, Memᴰ.append_left, merged-key, or_cases, held-right)
+    node-held (at_node {l} {r} f x y) (at_top {j} {un} e g h) = grind (arith, held-left, Memᴰ.append_left, merged-key, held-right)
     node-held (at_node {p} {l} {r} f x y) (in_left h) =
         held-left m p l r (holds-seated h) (Memᴰ.append_right (node_key_held m p) (node-held x h))
     node-held (at_node {p} {l} {r} f x y) (in_right h) = search (held-right, not_T, holds-seated, Memᴰ.append_right, node-held y h)
@@ -105,7 +105,7 @@ module _ (f : ℕ) (commits : ℕ → Commit) (n : ℕ) where
   holder :
       (m : ℕ) (t : Tree Secret) → Below t (at f commits n).tree → T (seated m t) →
       (s : Secret) × Memᴰ s (resolution t) × Memᴰ s (stock m (at f commits n))
-  holder m t b h = grind (arith, reached, seated-has, held-stock, at, has-seated, has-below, leaf-held, run-once, node-held, holds-below)
+  holder m t b h = grind (arith, reached, seated-has, held-stock, has-seated, has-below, leaf-held, run-once, node-held, holds-below)
 
   stranger :
       (m : ℕ) (t : Tree Secret) → Below t (at f commits n).tree → (T (seated m t) → ⊥) → (s : Secret) →

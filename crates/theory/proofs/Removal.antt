@@ -18,14 +18,14 @@ vacated m x = cond (is_at m x) blank_leaf x
 pub removed-absent : {K : Type 0} (m : ℕ) (t : Tree K) → T (not (seated m t)) → removed m t ≡ t
 unfolding removed seated
 removed-absent m (leaf x) h = rw (is_false (is_at m x) h)
-removed-absent m (node p l r) h = grind (arith, is_false, nor-left, nor-right)
+removed-absent m (node p l r) h = grind arith
 
 -- so a removal goes through both sides
 pub removed-node :
     {K : Type 0} (m : ℕ) (p : Parent K) (l r : Tree K) →
     removed m (node p l r) ≡ node (cond (seated m l || seated m r) blank_parent p) (removed m l) (removed m r)
 unfolding removed
-removed-node m p l r = grind (arith, decided, is_true, is_false, removed-absent, nor-left, nor-right)
+removed-node m p l r = grind (arith, removed-absent)
 
 -- each leaf is as it was, or without m
 pub leaf-removed :
@@ -69,7 +69,7 @@ left_alone v w m = grind arith
 seated-vacated :
     {K : Type 0} (w m : ℕ) (x : Leaf K) → is_at w (vacated m x) ≡ (is_at w x && not (eqb w m))
 seated-vacated w m blank_leaf = refl
-seated-vacated w m (occupied v k) = grind (arith, decided, is_true, left_alone, is_false)
+seated-vacated w m (occupied v k) = grind arith
 
 pub seated-removed :
     {K : Type 0} (w m : ℕ) (t : Tree K) → seated w (removed m t) ≡ (seated w t && not (eqb w m))

@@ -31,14 +31,14 @@ pub empty-deserted : {K : Type 0} (t : Tree K) → resolution t ≡ [] → Deser
 unfolding resolution seated
 empty-deserted (leaf blank_leaf) e = λ w s. s
 empty-deserted (leaf (occupied v k)) e = absurd (not-nil e)
-empty-deserted (node blank_parent l r) e = grind (arith, or_cases, nil-parts, empty-deserted l, empty-deserted r)
+empty-deserted (node blank_parent l r) e = grind (arith, nil-parts, empty-deserted l, empty-deserted r)
 empty-deserted (node (keyed k un) l r) e = absurd (not-nil e)
 
 pub deserted-empty : {K : Type 0} {t : Tree K} → Peopled t → Deserted t → resolution t ≡ []
 unfolding resolution seated
 deserted-empty (at_leaf {x = blank_leaf}) d = refl
 deserted-empty (at_leaf {x = occupied v k}) d = absurd (d v (eqb_refl v))
-deserted-empty (at_node {c = blank_parent} {l} {r} f p q) d = grind (arith, or_left, or_right, deserted-empty p, deserted-empty q)
+deserted-empty (at_node {c = blank_parent} {l} {r} f p q) d = grind (arith, deserted-empty p, deserted-empty q)
 deserted-empty (at_node {c = keyed k un} f p q) d = absurd (d (f tt).0 (f tt).1)
 
 pub peopled-below : {K : Type 0} {t u : Tree K} → Below t u → Peopled u → Peopled t

@@ -164,7 +164,7 @@ module _ (f : ℕ) (commits : ℕ → Commit) (es : List Exposure) where
       (o : Level f commits) → Derived (node_key f commits o) →
       (x : Exposure) × Memᴰ x es × (k : Secret)
       × history.had f commits o x.who k × Has x.who k (at f commits x.when).tree
-  level-sitting o d = grind (arith, of-lock, same-level, history.lock-same, had-same, of-path, had-up, history.path_of)
+  level-sitting o d = grind (arith, same-level, of-path, had-up)
 
   heart :
       {b : ℕ} {s : Secret} {u : Tree Secret} → Keyed (node_key f commits) (history.had f commits) u →
@@ -231,7 +231,7 @@ module _ (f : ℕ) (commits : ℕ → Commit) (es : List Exposure) where
       (sym (mixes-epoch f commits x.0.when) ∙ ap mixes (sym x.3) ∙ mixes-epoch f commits n)
 
   gift-gives : (n i : ℕ) → T (done f commits n) → (g : Gift n i) → Gives f commits n g.exposure
-  gift-gives n i h g = grind (arith, at, after, had-has, history.path_of, has-seated, once-keys, run-once)
+  gift-gives n i h g = grind (arith, after, had-has, has-seated, once-keys, run-once)
 
   secret-open : (n : ℕ) → Derived (at f commits n).secret → Open f commits es n
   unfolding group
@@ -246,4 +246,4 @@ module _ (f : ℕ) (commits : ℕ → Commit) (es : List Exposure) where
       (λ h y. idle (secret-open n y) (T_not (done f commits n) h)) d
 
 pub main : Main
-main f commits es until n k = grind (arith, of-talk, derived, epoch-open, secret-open)
+main f commits es until n k = grind (arith, derived, epoch-open, secret-open)

@@ -53,7 +53,7 @@ fine w (add m) t h =
     (nleb→lt max_members (members t) d.0)
 
 pub permitted : {K : Type 0} (e : ℕ) (c : Commit) (t : Tree K) → T (not (is_some (refusal e c t))) → Permitted e c t
-permitted e c t h = grind (arith, not-refused, nleb→lt, not-not, fine)
+permitted e c t h = grind (arith, fine)
 
 -- a run from a founder: what every commit that isn't refused keeps
 pub run-from :
@@ -166,7 +166,7 @@ coming :
     ParentSound c who → ParentSound (unmerged_at m c) then
 unfolding is_unmerged distinct
 coming m blank_parent who then h e s = tt
-coming m (keyed k un) who then h e s = grind (arith, both, not_T, or_cases, or_right, or_left, nor)
+coming m (keyed k un) who then h e s = grind arith
 
 or_swap : (a b c : Bool) → ((a || c) || b) ≡ ((a || b) || c)
 or_swap true b c = refl
@@ -207,7 +207,7 @@ added-sound m k t h s =
 -- growing seats nobody
 pub seated-grown : {K : Type 0} (w : ℕ) (t : Tree K) → seated w (grown t) ≡ seated w t
 unfolding seated
-seated-grown w t = grind (arith, decided, grown-full, is_false, blank-deserted, or-false, grown-roomy)
+seated-grown w t = grind (arith, grown-full, blank-deserted, grown-roomy)
 
 -- a parent of the path has nobody unmerged, and m below it
 path-sound :
@@ -286,7 +286,7 @@ distinct_tail w ws h = (and_left (not (is_unmerged w ws)) (distinct ws) h, and_r
 seated-all : {K : Type 0} (ws : List ℕ) (t : Tree K) → T (all_seated ws t) → (w : ℕ) → T (is_unmerged w ws) → T (seated w t)
 unfolding all_seated is_unmerged
 seated-all [] t h w u = absurd u
-seated-all (v ∷ ws) t h w u = grind (arith, or_cases, and_left, and_right, seated-all ws t)
+seated-all (v ∷ ws) t h w u = grind (arith, seated-all ws t)
 
 all-seated : {K : Type 0} (ws : List ℕ) (t : Tree K) → ((w : ℕ) → T (is_unmerged w ws) → T (seated w t)) → T (all_seated ws t)
 unfolding all_seated is_unmerged
@@ -298,19 +298,19 @@ some-merged :
 unfolding some_merged seated
 some-merged un (leaf blank_leaf) h = absurd h
 some-merged un (leaf (occupied w k)) h = (w, eqb_refl w, h)
-some-merged un (node p l r) h = grind (arith, or_cases, or_left, or_right, some-merged un l, some-merged un r)
+some-merged un (node p l r) h = grind (arith, some-merged un l, some-merged un r)
 
 merged_some : {K : Type 0} (un : List ℕ) (t : Tree K) (w : ℕ) → T (seated w t) → T (not (is_unmerged w un)) → T (some_merged un t)
 unfolding some_merged seated
 merged_some un (leaf blank_leaf) w s h = absurd s
 merged_some un (leaf (occupied v k)) w s h = rw (eqb→eq v w s) h
-merged_some un (node p l r) w s h = grind (arith, or_cases, or_left, or_right, merged_some un l w, merged_some un r w)
+merged_some un (node p l r) w s h = grind (arith, merged_some un l w, merged_some un r w)
 
 apart-all : {K : Type 0} (l r : Tree K) → T (apart l r) → Apart l r
 unfolding apart seated
 apart-all (leaf blank_leaf) r h w a b = absurd a
 apart-all (leaf (occupied v k)) r h w a b = T_not (seated v r) h (rw (eqb→eq v w a) b)
-apart-all (node p x y) r h w a b = grind (arith, or_cases, and_left, and_right, apart-all x r, apart-all y r)
+apart-all (node p x y) r h w a b = grind (arith, apart-all x r, apart-all y r)
 
 all_apart : {K : Type 0} (l r : Tree K) → Apart l r → T (apart l r)
 unfolding apart seated
@@ -357,7 +357,7 @@ pub numbered-all : {K : Type 0} (t : Tree K) → T (numbered t) → Numbered t
 unfolding numbered seated
 numbered-all (leaf blank_leaf) h w s = absurd s
 numbered-all (leaf (occupied v k)) h w s = rw (← (eqb→eq v w s)) (ltb→lt v nobody h)
-numbered-all (node p l r) h w s = grind (arith, or_cases, and_left, and_right, numbered-all l, numbered-all r)
+numbered-all (node p l r) h w s = grind (arith, numbered-all l, numbered-all r)
 
 pub all-numbered : {K : Type 0} (t : Tree K) → Numbered t → T (numbered t)
 unfolding numbered seated
@@ -405,7 +405,7 @@ top-merging :
     (k : K) (un : List ℕ) → Some c ≡ Some (keyed k un) → Merging [] un (node c l r)
 unfolding seated
 top-merging blank_parent l r s k un e = absurd (blank-keyed e)
-top-merging (keyed j vs) l r s k un e = grind (arith, same-parent, seated-below)
+top-merging (keyed j vs) l r s k un e = grind (arith, seated-below)
 
 pub sound-merging-at :
     {K : Type 0} {t : Tree K} → Sound t → (q : List Turn) (k : K) (un : List ℕ) → parent_at q t ≡ Some (keyed k un) → Merging q un t
@@ -500,7 +500,7 @@ facts-sound (node c l r) s =
     (facts-sound l (facts-left c l r s)) (facts-sound r (facts-right c l r s))
 
 pub well-formed-facts : {K : Type 0} (t : Tree K) → T (well_formed t) ↔ WellFormed t
-well-formed-facts t = grind (arith, numbered-all, and_left, sound-facts, consistent-sound, and_right, both, all-numbered, sound-consistent, facts-sound)
+well-formed-facts t = grind (arith, numbered-all, sound-facts, consistent-sound, all-numbered, sound-consistent, facts-sound)
 
 pub well_formed_is : WellFormedIs
 well_formed_is = well-formed-facts
