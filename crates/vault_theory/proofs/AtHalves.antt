@@ -60,7 +60,7 @@ module _ {K : Type 0} (keys : Halves K) (reflexive : (k : K) → T (keys.same k 
   opens-carried :
       (k x : Secret) (o : Option (Vault Secret)) (p : Option (Vault K)) → Carried o p →
       Carried (cond (same k x) o None) (cond (keys.same (keys.half k) (keys.half x)) p None)
-  opens-carried k x o p h = grind (arith, decided, is_true, same-is, is_false, carried_none)
+  opens-carried k x o p h = grind (arith, same-is)
 
   sealed-there :
       (k x : Secret) (v : Vault Secret) → has_sealed (keys.half k) x (there v) ≡ there (has_sealed k x v)
@@ -76,7 +76,7 @@ module _ {K : Type 0} (keys : Halves K) (reflexive : (k : K) → T (keys.same k 
   unfolding step
   step-carried bs (draw t) v = drew-carried t v.draws v
   step-carried bs (derive w s t) v = search (carried-then, filled-carried)
-  step-carried bs (mix s p t) v = grind (arith, carried-then, secrets.mix, filled-carried)
+  step-carried bs (mix s p t) v = grind arith
   step-carried bs (seal s k) v = search (carried-then, carried_some, sealed-there)
   step-carried bs (unseal n s t) v = search (carried-then, nth-carried, opens-carried, filled-carried)
   step-carried bs (forget s) v = search (carried-then, carried_some)

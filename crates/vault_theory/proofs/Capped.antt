@@ -49,7 +49,7 @@ posted-fewer c (at_node {c = k} {l} {r} f g p q) h =
 before-few : (w : ℕ) (ws : List ℕ) → T (is_unmerged w ws) → before w ws < length ws
 unfolding before is_unmerged
 before-few w [] h = absurd h
-before-few w (v ∷ ws) h = grind (arith, decided, is_true, other-side, is_false, before-few w ws)
+before-few w (v ∷ ws) h = grind (arith, before-few w ws)
 
 pub number-few : {K : Type 0} (w : ℕ) {t : Tree K} → Sound t → number_of_key w t ≤ members t
 unfolding number_of_key members

@@ -23,7 +23,7 @@ still-absent w m t n = not_T (seated w (removed m t)) (λ h. T_not (seated w t) 
 empty-below :
     (w : ℕ) (p : Parent Secret) (d : ℕ) (b : Slots) → ((h : ℕ) → h ≤ suc d → b (slot_of_key h) ≡ None) →
     (h : ℕ) → h ≤ d → parent_over w p (suc d) b (slot_of_key h) ≡ None
-empty-below w p d b e h n = grind (arith, put_other)
+empty-below w p d b e h n = grind arith
 
 module _ {boxes : List (Sealed Secret)} {ds : List Secret} {ss : List (Sealed Secret)} {gs : List Secret} where
   -- a node key is forgotten, where it is held
@@ -81,7 +81,7 @@ module _ {boxes : List (Sealed Secret)} {ds : List Secret} {ss : List (Sealed Se
   leave-next :
       (w : ℕ) (p : Parent Secret) (d : ℕ) (b : Slots) → b (slot_of_key (suc d)) ≡ None →
       Runs boxes (held_forgotten w p (suc d)) (vault (parent_over w p (suc d) b) ds ss gs) (vault b ds ss gs)
-  leave-next w p d b e = grind (arith, runs_to, forget-held, put_same, put-put, put-there)
+  leave-next w p d b e = grind (arith, forget-held)
 
   -- its keys lay over slots that are empty but for those above
   pub abandoning :

@@ -29,12 +29,12 @@ climbed-few i h (k ∷ ks) = omega arith
 pub dropped-few : {K : Type 0} (w m : ℕ) {d : ℕ} {t : Tree K} → Level d t → length (dropped w m t) ≤ d
 unfolding dropped
 dropped-few w m level.at_leaf = omega arith
-dropped-few {K} w m (level.at_node {d} {c = p} {l} {r} a b) = search (arith, common_steps, forget-few, dropped-few w m a, dropped-few w m b)
+dropped-few {K} w m (level.at_node {d} {c = p} {l} {r} a b) = search (arith, common_steps, dropped-few w m a, dropped-few w m b)
 
 pub dropped-absent : {K : Type 0} (w m : ℕ) (t : Tree K) → T (not (seated m t)) → dropped w m t ≡ []
 unfolding dropped seated
 dropped-absent w m (leaf x) h = refl
-dropped-absent {K} w m (node p l r) h = grind (arith, is_false, nor-left, nor-right, dropped-absent w m l, dropped-absent w m r)
+dropped-absent {K} w m (node p l r) h = grind (arith, dropped-absent w m l, dropped-absent w m r)
 
 -- THE PATH. The orders of a half and of the parent over it.
 abbrev Halved : {K : Type 0} → ℕ → Bool → List (Order K) → Order K → Parent K → ℕ → ℕ → List K → List (Order K)
@@ -43,7 +43,7 @@ Halved w b os o p i h ks = cond b os (o ∷ []) ++ (held_forgotten w p h ++ clim
 halved-length :
     {K : Type 0} (w : ℕ) (b : Bool) (os : List (Order K)) (o : Order K) (p : Parent K) (i h : ℕ) (ks : List K) →
     length (Halved w b os o p i h ks) ≤ length (cond b os (o ∷ [])) + length (held_forgotten w p h) + 3
-halved-length w b os o p i h ks = search (arith, common_steps, climbed-few)
+halved-length w b os o p i h ks = search (arith, common_steps)
 
 pub followed-few : {K : Type 0} (w c : ℕ) {d : ℕ} {t : Tree K} → Level d t → length (followed w c t) ≤ 4 * d + 1
 unfolding followed
@@ -74,7 +74,7 @@ module _ {K : Type 0} (w m c d : ℕ) (n : T (not (eqb w m))) (p : Parent K) (l 
 
   dropped-over : length (dropped w m (node p l r)) ≤ length (cond (seated w l) (dropped w m l) (dropped w m r)) + 1
   unfolding dropped
-  dropped-over = search (arith, common_steps, forget-few)
+  dropped-over = search (arith, common_steps)
 
   dropped-half : length (dropped w m l) ≤ d → length (dropped w m r) ≤ d → length (cond (seated w l) (dropped w m l) (dropped w m r)) ≤ d
   dropped-half x y = by_cond (λ (os : List (Order K)). length os ≤ d) (seated w l) _ _ (λ _. x) (λ _. y)
@@ -84,20 +84,20 @@ module _ {K : Type 0} (w m c d : ℕ) (n : T (not (eqb w m))) (p : Parent K) (l 
       (o : Order K) → length (dropped w m r) ≤ d → Below l →
       length (cond (seated w l) (dropped w m l) (dropped w m r))
       + length (cond (seated w (removed m l)) (followed w c (removed m l)) (o ∷ [])) ≤ 4 * d + 1
-  met-left o y few = grind (arith, decided, same-seat, is_true, few, is_false)
+  met-left o y few = grind (arith, same-seat)
 
   -- in the right half
   met-right :
       (o : Order K) → Apart l r → length (dropped w m l) ≤ d → length (dropped w m r) ≤ d → Below r →
       length (cond (seated w l) (dropped w m l) (dropped w m r))
       + length (cond (seated w (removed m r)) (followed w c (removed m r)) (o ∷ [])) ≤ 4 * d + 1
-  met-right o f x y few = grind (arith, decided, same-seat, is_true, is_false, not_T, few, dropped-half)
+  met-right o f x y few = grind (arith, same-seat)
 
   over-removed :
       T (seated m l || seated m r) → Apart l r → length (dropped w m l) ≤ d → length (dropped w m r) ≤ d → Below l → Below r →
       length (dropped w m (node p l r)) + length (followed w c (removed m (node p l r))) ≤ 4 * suc d + 1
   unfolding followed
-  over-removed h f x y a b = grind (arith, removed-node, is_true, dropped-over, opened, met-left, halved-length, met-right)
+  over-removed h f x y a b = grind (arith, removed-node, dropped-over, met-left, halved-length, met-right)
 
 pub dropped-followed :
     {K : Type 0} (w m c : ℕ) → T (not (eqb w m)) → {d : ℕ} {t : Tree K} → Level d t → Sound t →
@@ -151,7 +151,7 @@ taking-stays w (add m) c fresh t h = rw (is_false (eqb m w) h)
 
 pub orders-stay :
     {K : Type 0} (w : ℕ) (c : Commit) (fresh init : K) (t : Tree K) → T (stays w c) → orders_of w c fresh init t ≡ staying w c fresh t
-orders-stay w c fresh init t h = grind (arith, and_left, and_right, is_false, taking-stays)
+orders-stay w c fresh init t h = grind arith
 
 pub orders-few :
     {K : Type 0} (w : ℕ) (c : Commit) (fresh init : K) {d : ℕ} {t : Tree K} → Level d t → Sound t → T (stays w c) →

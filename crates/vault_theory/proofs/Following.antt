@@ -50,10 +50,10 @@ pub key-path : (h i : ℕ) → h ≤ max_depth → slot_of_key h ≡ slot_of_pat
 key-path h i n e = elim (turns i) [ inl a ↦ omega arith | inr a ↦ omega arith ]
 
 pub free-over : {d : ℕ} {t : Tree Secret} (w : ℕ) (b : Slots) → Level d t → d ≤ max_depth → Free b → Free (over w t b)
-free-over w b a n f = grind (arith, over-read, high)
+free-over w b a n f = grind (arith, over-read)
 
 pub free-put : (h : ℕ) (x : Option Secret) (b : Slots) → h ≤ max_depth → Free b → Free (put (slot_of_key h) x b)
-free-put h x b n f = grind (arith, put_other)
+free-put h x b n f = grind arith
 
 -- with the path secret of level i in its slot
 abbrev pub holding : ℕ → Secret → Slots → Slots

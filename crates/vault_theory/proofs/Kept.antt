@@ -209,7 +209,7 @@ leaver-carries {c} {m} now h n =
 
 newcomer-carries :
     {g : Group} {c m : ℕ} → Allowed g c (add m) → T (not (seated m g.tree)) → members g.tree < max_members → Carried g c (add m) m
-newcomer-carries {g} {c} {m} now h room = grind (arith, is_false, stranger, is_true, eqb_refl, joins-kept)
+newcomer-carries {g} {c} {m} now h room = grind (arith, joins-kept)
 
 only : (b : Bool) → T (b || false) → T b
 only true h = tt

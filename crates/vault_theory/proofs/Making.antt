@@ -27,7 +27,7 @@ sealed-all :
     (c : ℕ) (own s : Secret) (ss : List (Sealed Secret)) (t : Tree Secret) (i : ℕ) (ks : List Secret) →
     (ss ++ seen (path_boxes s (after c own s t).targets)) ++ each (ups i s) ks
     ≡ ss ++ seen (path_boxes s ((after c own s t).targets ++ sealed_to i ks))
-sealed-all c own s ss t i ks = search (arith, common_steps, after, each, boxes-each, boxes-append)
+sealed-all c own s ss t i ks = search (arith, common_steps, boxes-each)
 
 module _ (c : ℕ) (own s : Secret) {boxes : List (Sealed Secret)} {ds : List Secret} where
   seal-next :
@@ -52,7 +52,7 @@ module _ (c : ℕ) (own s : Secret) {boxes : List (Sealed Secret)} {ds : List Se
       Runs boxes (made c t) (vault (holding 0 s (put (slot_of_key 0) (Some own) (over c t b))) ds ss gs)
       (vault (reached c own s t (over c (after c own s t).tree b)) ds (ss ++ seen (path_boxes s (after c own s t).targets)) (gs ++ node_keys (levels c t) s))
   unfolding made levels
-  making b ss gs (here {k}) n f = unfold laid over ups node_keys in search (arith, common_steps, over, is_true, eqb_refl, runs_to, done, holding, put-put)
+  making b ss gs (here {k}) n f = unfold laid over ups node_keys in search (arith, common_steps, done)
   making b ss gs (on_left {d} {p} {l} {r} x a i) n f =
       let h = seat-seated x in
       let v = seat-level x in

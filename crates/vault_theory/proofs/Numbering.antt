@@ -35,12 +35,12 @@ picked g false false x y z m n o p q r = r
 pub levels-laid : {K : Type 0} (c : ℕ) (own : K) (keys : ℕ → K) (t : Tree K) → (laid c own keys t).levels ≡ levels c t
 unfolding laid levels
 levels-laid c own keys (leaf x) = refl
-levels-laid {K} c own keys (node p l r) = grind (arith, picked, levels-laid c own keys l, levels-laid c own keys r)
+levels-laid {K} c own keys (node p l r) = grind (arith, levels-laid c own keys l, levels-laid c own keys r)
 
 pub posted-laid : {K : Type 0} (c : ℕ) (own : K) (keys : ℕ → K) (t : Tree K) → length (laid c own keys t).targets ≡ posted c t
 unfolding laid posted
 posted-laid c own keys (leaf x) = refl
-posted-laid {K} c own keys (node p l r) = grind (arith, picked, targets-length, posted-laid c own keys l, posted-laid c own keys r)
+posted-laid {K} c own keys (node p l r) = grind (arith, targets-length, posted-laid c own keys l, posted-laid c own keys r)
 
 -- LISTS by number.
 pub nth_left : {A : Type 0} (xs ys : List A) (n : ℕ) (x : A) → nth xs n ≡ Some x → nth (xs ++ ys) n ≡ Some x
@@ -79,7 +79,7 @@ held_below w h p l r e = rw (ne_eqb h (suc (height l)) (λ q. omega arith))
 pub held-leaf : {K : Type 0} (w : ℕ) {t : Tree K} → Sound t → held_at w 0 t ≡ leaf_key w t
 unfolding leaf_key
 held-leaf w at_leaf = unfold held_at in refl
-held-leaf w (at_node {c} {l} {r} f g p q) = search (arith, common_steps, held_below, decided, is_true, leaf_key-absent, not_T, leaf_key, is_false, held-leaf w p, held-leaf w q)
+held-leaf w (at_node {c} {l} {r} f g p q) = search (arith, common_steps, held_below, leaf_key-absent, held-leaf w p, held-leaf w q)
 
 -- among the leaf keys of several, each at its own number
 pub keys_found :
@@ -109,7 +109,7 @@ pub held-top :
     {K : Type 0} (w : ℕ) (p : Parent K) (l r : Tree K) → T (seated w (node p l r)) →
     held_at w (suc (height l)) (node p l r) ≡ node_key_held w p
 unfolding held_at seated
-held-top w p l r h = grind (arith, is_true, eqb_refl)
+held-top w p l r h = grind arith
 
 -- the key with a member's number is the key that the member holds at that height
 pub record Found {K : Type 0} (w : ℕ) (t : Tree K) : Type 0 where
@@ -120,11 +120,11 @@ pub record Found {K : Type 0} (w : ℕ) (t : Tree K) : Type 0 where
 -- under a blank parent, as in the half that it sits in
 found_left : {K : Type 0} (w : ℕ) (l r : Tree K) → height_of_key w l ≤ height l → T (seated w l) → Found w l → Found w (node blank_parent l r)
 unfolding number_of_key height_of_key resolution
-found_left w l r low x below = grind (arith, is_true, nth_left, held_below)
+found_left w l r low x below = grind (arith, nth_left, held_below)
 
 found_right : {K : Type 0} (w : ℕ) (l r : Tree K) → height_of_key w r ≤ height l → T (not (seated w l)) → Found w r → Found w (node blank_parent l r)
 unfolding number_of_key height_of_key resolution
-found_right w l r low x below = grind (arith, is_false, nth_right, held_below)
+found_right w l r low x below = grind (arith, nth_right, held_below)
 
 -- under a parent with a key, its leaf key or the node key
 found-unmerged :

@@ -26,7 +26,7 @@ module _ {A B : Type 0} (f : A → B) where
   pub levels-map : (c : ℕ) (t : Tree A) → levels c (map_tree f t) ≡ levels c t
   unfolding levels map_tree
   levels-map c (leaf x) = refl
-  levels-map c (node p l r) = grind (arith, seated-map, resolution-map, level_after-map, levels-map c l, levels-map c r)
+  levels-map c (node p l r) = grind (arith, seated-map, resolution-map, levels-map c l, levels-map c r)
 
   pub posted-map : (c : ℕ) (t : Tree A) → posted c (map_tree f t) ≡ posted c t
   unfolding posted map_tree
@@ -75,13 +75,13 @@ module _ {A B : Type 0} (f : A → B) where
       joined (map (seal (slot_of_path i)) (k ∷ ks)) (risen i h (publish (slot_of_key h) ∷ [])) _ _ (seals-map (slot_of_path i) (k ∷ ks)) refl
 
   turned-map : (n : ℕ) (sealing : List (Order A)) → turned n (mapped sealing) ≡ mapped (turned n sealing)
-  turned-map n sealing = grind (arith, joined, renewed)
+  turned-map n sealing = grind (arith, joined)
 
   -- A PART of the tree.
   pub dropped-map : (w m : ℕ) (t : Tree A) → dropped w m (map_tree f t) ≡ map (map_order f) (dropped w m t)
   unfolding dropped map_tree
   dropped-map w m (leaf x) = refl
-  dropped-map w m (node p l r) = grind (arith, seated-map, height-map, joined, chosen, held_forgotten-map, dropped-map w m l, dropped-map w m r)
+  dropped-map w m (node p l r) = grind (arith, seated-map, height-map, joined, dropped-map w m l, dropped-map w m r)
 
   pub opened_map : (w c : ℕ) (own other : Tree A) → opened w c (map_tree f own) (map_tree f other) ≡ map_order f (opened w c own other)
   opened_map w c own other = rw (posted-map c own, number_of_key-map w other, height_of_key-map w other, levels-map c own)
@@ -137,7 +137,7 @@ module _ {A B : Type 0} (f : A → B) where
   pub abandoned-map : (w : ℕ) (t : Tree A) → abandoned w (map_tree f t) ≡ map (map_order f) (abandoned w t)
   unfolding abandoned map_tree
   abandoned-map w (leaf x) = refl
-  abandoned-map w (node p l r) = grind (arith, seated-map, height-map, joined, chosen, held_forgotten-map, abandoned-map w l, abandoned-map w r)
+  abandoned-map w (node p l r) = grind (arith, seated-map, height-map, joined, abandoned-map w l, abandoned-map w r)
 
   -- THE ROLES.
   dropped_for-map : (w : ℕ) (a : Change) (t : Tree A) → dropped_for w a (map_tree f t) ≡ mapped (dropped_for w a t)
@@ -154,10 +154,10 @@ module _ {A B : Type 0} (f : A → B) where
   staying-map w c fresh t = grind (arith, readied-map, levels-map, joined, dropped_for-map, followed-map)
 
   pub committing-map : (c : Commit) (fresh init : A) (t : Tree A) → committing c (f fresh) (f init) (map_tree f t) ≡ map (map_order f) (committing c fresh init t)
-  committing-map c fresh init t = grind (arith, readied-map, levels-map, welcoming-map, joined, dropped_for-map, made-map, turned-map)
+  committing-map c fresh init t = grind (arith, readied-map, levels-map, joined, dropped_for-map, made-map)
 
   pub joining-map : (w : ℕ) (c : Commit) (fresh : A) (t : Tree A) → joining w c (f fresh) (map_tree f t) ≡ map (map_order f) (joining w c fresh t)
-  joining-map w c fresh t = grind (arith, renewed, readied-map, levels-map, posted-map, joined, followed-map)
+  joining-map w c fresh t = grind (arith, readied-map, levels-map, posted-map, joined, followed-map)
 
   leaving-map : (w : ℕ) (t : Tree A) → leaving w (map_tree f t) ≡ mapped (leaving w t)
   leaving-map w t = ap (λ os. forget talk_slot ∷ forget seed_slot ∷ os) (abandoned-map w t)

@@ -76,10 +76,10 @@ over-read {t} w i b a o =
 pub over-next :
     {d : ℕ} {t : Tree Secret} (w : ℕ) (x y : Option Secret) (b : Slots) → Level d t →
     put (slot_of_key (suc d)) x (over w t (put (slot_of_key (suc d)) y b)) ≡ over w t (put (slot_of_key (suc d)) x b)
-over-next {d} {t} w x y b a = grind (arith, over-put, put-put)
+over-next {d} {t} w x y b a = grind (arith, over-put)
 
 pub read_next : {d : ℕ} {t : Tree Secret} (w : ℕ) (y : Option Secret) (b : Slots) → Level d t → over w t (put (slot_of_key (suc d)) y b) (slot_of_key (suc d)) ≡ y
-read_next {d} w y b a = grind (arith, over-read, put_same)
+read_next {d} w y b a = grind (arith, over-read)
 
 -- THE KEYS at each height are those that w holds
 pub over-held :
@@ -148,4 +148,4 @@ layout-seated {w} {d} g s =
     far h = grind arith
 
 pub layout-absent : (w : ℕ) (g : Group) → T (not (seated w g.tree)) → layout w g ≡ bare
-layout-absent w g n = grind (arith, slots-by-height, is_false, absent)
+layout-absent w g n = grind (arith, absent)

@@ -107,7 +107,7 @@ module _ (n : ℕ) where
         (either (seated m l || seated m r) _ _ (held_forgotten-uses w p (suc (height l)) (omega arith)) none)
 
     opened-fits : (w c : ℕ) (own : Tree K) {d : ℕ} {other : Tree K} → Level d other → d ≤ n → Fits (opened w c own other)
-    opened-fits w c own {other} a e = grind (arith, height_of_key-low, two, own, key, path)
+    opened-fits w c own {other} a e = grind (arith, height_of_key-low, two, path)
 
     followed-uses : (w c : ℕ) {d : ℕ} {t : Tree K} → Level d t → d ≤ n → Uses (followed w c t)
     unfolding followed

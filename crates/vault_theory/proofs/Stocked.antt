@@ -49,7 +49,7 @@ module _ {K : Type 0} (s : K) (w : ℕ) where
   pub held-seated : (h : ℕ) (t : Tree K) → Memᴰ s (held_at w h t) → T (seated w t)
   unfolding held_at seated
   held-seated h (leaf x) = grind (arith, Memᴰ.not-nil)
-  held-seated h (node p l r) = grind (arith, Memᴰ.not-nil, or_left, or_right, held-seated h r)
+  held-seated h (node p l r) = grind (arith, Memᴰ.not-nil, held-seated h r)
 
   -- and no key lies above the top
   pub held_low : (h : ℕ) {d : ℕ} {t : Tree K} → Level d t → Memᴰ s (held_at w h t) → h ≤ d
@@ -62,7 +62,7 @@ module _ {K : Type 0} (s : K) (w : ℕ) where
   unfolding held_down
   down-in zero zero t e m = m
   down-in (suc h) zero t e m = absurd (omega arith)
-  down-in h (suc d) t e m = grind (arith, cases_lt, Memᴰ.append_right, Memᴰ.append_left, down-in h d t)
+  down-in h (suc d) t e m = grind (arith, Memᴰ.append_right, Memᴰ.append_left, down-in h d t)
 
   pub in-down : (d : ℕ) (t : Tree K) → Memᴰ s (held_down w d t) → (h : ℕ) × Memᴰ s (held_at w h t)
   unfolding held_down
@@ -110,7 +110,7 @@ module _ (g : Group) (d w : ℕ) (h : T (is_level d g.tree)) (s : Secret) where
       T_not (seated w g.tree) n (held-seated s w i g.tree (first-in (held_at w i g.tree) e))
 
   slots-just : Slot w g s ↔ Memᴰ s (stock w g)
-  slots-just = grind (arith, slot-stocked, stocked-slot, absent-slot, Memᴰ.not-nil)
+  slots-just = grind (arith, slot-stocked, stocked-slot, absent-slot)
 
 pub layout_holds : LayoutHolds
 layout_holds g d w h s = slots-just g d w h s

@@ -26,11 +26,11 @@ pub plain-bare : Plain bare
 plain-bare = record { talk = refl; seed = refl; epoch = refl; path = record { odd = refl; even = refl } }
 
 pub plain_over : {d : ℕ} {t : Tree Secret} (w : ℕ) (b : Slots) → Level d t → d ≤ max_depth → Plain b → Plain (over w t b)
-plain_over w b a n p = grind (arith, over-read, low, high, free-over)
+plain_over w b a n p = grind (arith, over-read)
 
 -- the talk secret and the seed lie beside the keys
 pub over-epoch : {d : ℕ} {t : Tree Secret} (w : ℕ) (s : Secret) (b : Slots) → Level d t → over w t (epoch_over s b) ≡ epoch_over s (over w t b)
-over-epoch w s b a = grind (arith, over-put, secrets.talk, secrets.seed, low)
+over-epoch w s b a = grind (arith, over-put)
 
 renewed-slots :
     (s : Secret) (b : Slots) → b epoch_slot ≡ None →
