@@ -75,10 +75,6 @@ unfolding is_unmerged leaf_keys
 among m [] t u d = absurd u
 among m (w ∷ ms) t {s} u d = grind (arith, Memᴰ.append_left, Memᴰ.append_right, among m ms t)
 
--- the node key of a parent, where it isn't unmerged
-key-held : {K : Type 0} (m : ℕ) (k : K) (un : List ℕ) → T (not (is_unmerged m un)) → node_key_held m (keyed k un) ≡ k ∷ []
-key-held m k un h = rw (is_false (is_unmerged m un) h)
-
 -- the key of the top parent is held by who is seated and not unmerged
 top-held :
     {K : Type 0} (m : ℕ) (k : K) (un : List ℕ) (l r : Tree K) → T (seated m l || seated m r) → T (not (is_unmerged m un)) →
@@ -317,9 +313,6 @@ module _ {K : Type 0} (fresh : K) {w : ℕ} {t : Tree K} where
 -- A COMMIT. What a handset holds where it is seated.
 pub stock-seated : (m : ℕ) (g : Group) → T (seated m g.tree) → stock m g ≡ talk g.secret ∷ seed g.secret ∷ held m g.tree
 stock-seated m g h = rw (is_true (seated m g.tree) h)
-
-pub stock-absent : (m : ℕ) (g : Group) → T (not (seated m g.tree)) → stock m g ≡ []
-stock-absent m g h = rw (is_false (seated m g.tree) h)
 
 -- with the epoch's secret and the keys, all of it
 stock-known :

@@ -35,10 +35,6 @@ blank-bare (d ∷ p) (leaf x) = tt
 blank-bare (left ∷ p) (node c l r) = blank-bare p l
 blank-bare (right ∷ p) (node c l r) = blank-bare p r
 
-or-none : (o : Option ℕ) (n : ℕ) → or_else o n None ≡ o
-or-none None n = refl
-or-none (Some i) n = refl
-
 pub doubled : {K : Type 0} (t : Tree K) → T (full t) → Doubled t
 unfolding leaf_at parent_at position
 doubled t h = grind (arith, blank-deserted, sits-seated, blank-bare, blank-position)

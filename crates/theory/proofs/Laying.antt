@@ -25,21 +25,6 @@ same_rest e = cc
 other_way : {q p : List Turn} → (left ∷ q) ≡ (right ∷ p) → ⊥
 other_way e = let z : ◌≡◌ {A = ℕ} 0 1 = cc in omega arith
 
--- one parent, given the resolution of its other half
-laid-blank :
-    {K : Type 0} (keys : ℕ → K) (i : ℕ) (ks : List K) → ks ≡ [] → Some (parent_laid keys i ks) ≡ Some blank_parent
-laid-blank keys i ks e = ap (λ x. Some (parent_laid keys i x)) e
-
-laid-keyed :
-    {K : Type 0} (keys : ℕ → K) (i : ℕ) (ks : List K) → (ks ≡ [] → ⊥) →
-    (j : ℕ) × (j < level_after i ks) × (Some (parent_laid keys i ks) ≡ Some (keyed (keys j) []))
-laid-keyed keys i [] f = absurd (f refl)
-laid-keyed keys i (k ∷ ks) f = (i, omega arith, refl)
-
-level-up : {K : Type 0} (i j : ℕ) (ks : List K) → j < i → j < level_after i ks
-level-up i j [] h = h
-level-up i j (k ∷ ks) h = omega arith
-
 module _ {K : Type 0} {m : ℕ} {own : K} {keys : ℕ → K} where
   pub from :
       {t u : Tree K} {i : ℕ} {ts : List (Target K)} → Climbing m own keys t u i ts →

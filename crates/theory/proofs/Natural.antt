@@ -138,10 +138,6 @@ module _ {A B : Type 0} (f : A → B) where
   resolution-map (node blank_parent l r) = rw (resolution-map l, resolution-map r) (sym (map-append f (resolution l) (resolution r)))
   resolution-map (node (keyed k un) l r) = ap (λ ks. f k ∷ ks) (leaf_keys-map un (node (keyed k un) l r))
 
-  pub node_key_held-map : (m : ℕ) (p : Parent A) → node_key_held m (map_parent f p) ≡ map f (node_key_held m p)
-  node_key_held-map m blank_parent = refl
-  node_key_held-map m (keyed k un) = push (map f) (is_unmerged m un) [] (k ∷ [])
-
   pub held-map : (m : ℕ) (t : Tree A) → held m (map_tree f t) ≡ map f (held m t)
   unfolding held map_tree
   held-map m (leaf x) = rw (at_map m x, key-map x) (push (map f) (is_at m x) (key_at x) [])
@@ -161,10 +157,6 @@ module _ {A B : Type 0} (f : A → B) where
   pub grown-map : (t : Tree A) → grown (map_tree f t) ≡ map_tree f (grown t)
   grown-map t =
       rw (full-map t, blank_tree-map t) (unfold map_tree in push (map_tree f) (full t) (node blank_parent t (blank_tree t)) t)
-
-  pub unmerged_at-map : (m : ℕ) (p : Parent A) → unmerged_at m (map_parent f p) ≡ map_parent f (unmerged_at m p)
-  unmerged_at-map m blank_parent = refl
-  unmerged_at-map m (keyed k un) = refl
 
   pub added-map : (m : ℕ) (k : A) (t : Tree A) → added m (f k) (map_tree f t) ≡ map_tree f (added m k t)
   unfolding added map_tree
@@ -186,14 +178,6 @@ module _ {A B : Type 0} (f : A → B) where
   sealed-map : (i : ℕ) (ks : List A) → sealed_to i (map f ks) ≡ map (map_target f) (sealed_to i ks)
   sealed-map i [] = refl
   sealed-map i (k ∷ ks) = ap (λ ts. record { key = f k; level = i } ∷ ts) (sealed-map i ks)
-
-  parent_laid-map : (keys : ℕ → A) (i : ℕ) (ks : List A) → parent_laid (λ j. f (keys j)) i (map f ks) ≡ map_parent f (parent_laid keys i ks)
-  parent_laid-map keys i [] = refl
-  parent_laid-map keys i (k ∷ ks) = refl
-
-  level_after-map : (i : ℕ) (ks : List A) → level_after i (map f ks) ≡ level_after i ks
-  level_after-map i [] = refl
-  level_after-map i (k ∷ ks) = refl
 
   climbed-map :
       (keys : ℕ → A) (x : Laid A) (other : List A) (put : Parent A → Tree A → Tree A) (put_b : Parent B → Tree B → Tree B) →

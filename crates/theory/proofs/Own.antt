@@ -154,9 +154,6 @@ grown-has {w} {k} t h =
     from (on_left g) = g
     from (on_right g) = absurd (blank-has t g)
 
-pub has-grown : {K : Type 0} {w : ℕ} {k : K} (t : Tree K) → Has w k t → Has w k (grown t)
-has-grown {w} {k} t h = by_cond (Has w k) (full t) _ _ (λ _. on_left h) (λ _. h)
-
 module _ {K : Type 0} {m : ℕ} {j : K} {w : ℕ} {k : K} where
   pub adding-has : {t u : Tree K} {p : List Turn} → Adding m j t u p → Has w k u → ((m ≡ w) × (j ≡ k)) ⊎ Has w k t
   adding-has adds.here (here e d) = inl (e, d)

@@ -63,9 +63,6 @@ and-over true false true = refl
 and-over true false false = refl
 and-over false b c = refl
 
-left_alone : (v w m : ℕ) → cond (eqb v m) false (eqb v w) ≡ (eqb v w && not (eqb w m))
-left_alone v w m = grind arith
-
 seated-vacated :
     {K : Type 0} (w m : ℕ) (x : Leaf K) → is_at w (vacated m x) ≡ (is_at w x && not (eqb w m))
 seated-vacated w m blank_leaf = refl

@@ -106,10 +106,6 @@ module _ (f : ℕ) (commits : ℕ → Commit) (es : List Exposure) where
       ]
 
   -- INVERSION. How a secret of a form comes to be of the kind.
-  of-lock : {s : Secret} → Derived (lock s) → OfNode (lock s) ⊎ Derived s
-  of-lock (told x) = inl x
-  of-lock (locks d) = inr d
-
   of-mix : {s t : Secret} → Derived (mix s t) → Derived s × Derived t
   of-mix (told x) = absurd x
   of-mix (mixing d e) = (d, e)
@@ -117,10 +113,6 @@ module _ (f : ℕ) (commits : ℕ → Commit) (es : List Exposure) where
   of-seed : {s : Secret} → Derived (seed s) → OfEpoch s ⊎ Derived s
   of-seed (told x) = inl x
   of-seed (seeding d) = inr d
-
-  of-talk : {s : Secret} → Derived (talk s) → OfEpoch s ⊎ Derived s
-  of-talk (told x) = inl x
-  of-talk (talking d) = inr d
 
   of-leaf : {b w : ℕ} {s : Secret} → Owns b w s → Derived s → OfLeaf s
   of-leaf (renewed h) (told x) = x

@@ -394,9 +394,6 @@ deeper-right : {K : Type 0} (c : Parent K) (l r : Tree K) (w : ℕ) (q : List Tu
 unfolding leaf_at
 deeper-right c l r w q s = (right ∷ s.0, down s.1, s.2)
 
-same-parent : {K : Type 0} {a b : K} {un vs : List ℕ} → Some (keyed a un) ≡ Some (keyed b vs) → un ≡ vs
-same-parent e = cc
-
 blank-keyed : {K : Type 0} {b : K} {vs : List ℕ} → ◌≡◌ {A = Option (Parent K)} (Some blank_parent) (Some (keyed b vs)) → ⊥
 blank-keyed e = let z : ◌≡◌ {A = ℕ} 0 1 = cc in omega arith
 

@@ -21,10 +21,6 @@ use Rattle.std.proofs.lemmas.Grind.{common_steps}
 forget-few : {K : Type 0} (w : ℕ) (p : Parent K) (h : ℕ) → length (held_forgotten w p h) ≤ 1
 forget-few {K} w p h = by_cond (λ (os : List (Order K)). length os ≤ 1) (is_held w p) _ _ (λ _. omega arith) (λ _. omega arith)
 
-climbed-few : {K : Type 0} (i h : ℕ) (ks : List K) → length (climbed i h ks) ≤ 3
-climbed-few i h [] = omega arith
-climbed-few i h (k ∷ ks) = omega arith
-
 -- A REMOVAL takes one key of each height at most, and none where the member isn't seated.
 pub dropped-few : {K : Type 0} (w m : ℕ) {d : ℕ} {t : Tree K} → Level d t → length (dropped w m t) ≤ d
 unfolding dropped
@@ -75,9 +71,6 @@ module _ {K : Type 0} (w m c d : ℕ) (n : T (not (eqb w m))) (p : Parent K) (l 
   dropped-over : length (dropped w m (node p l r)) ≤ length (cond (seated w l) (dropped w m l) (dropped w m r)) + 1
   unfolding dropped
   dropped-over = search (arith, common_steps)
-
-  dropped-half : length (dropped w m l) ≤ d → length (dropped w m r) ≤ d → length (cond (seated w l) (dropped w m l) (dropped w m r)) ≤ d
-  dropped-half x y = by_cond (λ (os : List (Order K)). length os ≤ d) (seated w l) _ _ (λ _. x) (λ _. y)
 
   -- the committer in the left half
   met-left :
@@ -142,12 +135,6 @@ prepared-few w c (remove m) fresh {t} x s h =
     let high = level-height (removed-level m x) in
     omega arith
 prepared-few w c (add m) fresh x s h = let few = followed-deep w c (add m) fresh x in omega arith
-
--- who stays takes the commit by staying
-taking-stays : {K : Type 0} (w : ℕ) (a : Change) (c : Commit) (fresh : K) (t : Tree K) → T (is_apart w a) → taking w a c fresh t ≡ staying w c fresh t
-taking-stays w renew c fresh t h = refl
-taking-stays w (remove m) c fresh t h = rw (is_false (eqb m w) h)
-taking-stays w (add m) c fresh t h = rw (is_false (eqb m w) h)
 
 pub orders-stay :
     {K : Type 0} (w : ℕ) (c : Commit) (fresh init : K) (t : Tree K) → T (stays w c) → orders_of w c fresh init t ≡ staying w c fresh t

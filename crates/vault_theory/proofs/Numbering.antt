@@ -24,14 +24,6 @@ other-side true b n h = elim n [ ]
 other-side false b n h = h
 
 -- THE PATH.
--- what is asked of the way that is taken
-picked :
-    {A B : Type 0} (g : A → B) (a b : Bool) (x y z : A) (m n o : B) → g x ≡ m → g y ≡ n → g z ≡ o →
-    g (cond a x (cond b y z)) ≡ cond a m (cond b n o)
-picked g true b x y z m n o p q r = p
-picked g false true x y z m n o p q r = q
-picked g false false x y z m n o p q r = r
-
 pub levels-laid : {K : Type 0} (c : ℕ) (own : K) (keys : ℕ → K) (t : Tree K) → (laid c own keys t).levels ≡ levels c t
 unfolding laid levels
 levels-laid c own keys (leaf x) = refl

@@ -16,10 +16,6 @@ use Rattle.vault_theory.specs.OrdersNatural.{OrdersNatural, OrdersNaturality}
 
 module _ {A B : Type 0} (f : A → B) where
   -- THE NUMBERS.
-  level_after-map : (i : ℕ) (ks : List A) → level_after i (map f ks) ≡ level_after i ks
-  level_after-map i [] = refl
-  level_after-map i (k ∷ ks) = refl
-
   count_map : (t : Tree A) → length (resolution (map_tree f t)) ≡ length (resolution t)
   count_map t = ap length (resolution-map f t) ∙ length-map (resolution t) f
 
@@ -73,9 +69,6 @@ module _ {A B : Type 0} (f : A → B) where
   sealed_up-map i h [] = refl
   sealed_up-map i h (k ∷ ks) =
       joined (map (seal (slot_of_path i)) (k ∷ ks)) (risen i h (publish (slot_of_key h) ∷ [])) _ _ (seals-map (slot_of_path i) (k ∷ ks)) refl
-
-  turned-map : (n : ℕ) (sealing : List (Order A)) → turned n (mapped sealing) ≡ mapped (turned n sealing)
-  turned-map n sealing = grind (arith, joined)
 
   -- A PART of the tree.
   pub dropped-map : (w m : ℕ) (t : Tree A) → dropped w m (map_tree f t) ≡ map (map_order f) (dropped w m t)
@@ -144,11 +137,6 @@ module _ {A B : Type 0} (f : A → B) where
   dropped_for-map w renew t = refl
   dropped_for-map w (remove m) t = dropped-map w m t
   dropped_for-map w (add m) t = refl
-
-  welcoming-map : (a : Change) (init : A) → welcoming a (f init) ≡ mapped (welcoming a init)
-  welcoming-map renew init = refl
-  welcoming-map (remove m) init = refl
-  welcoming-map (add m) init = refl
 
   pub staying-map : (w : ℕ) (c : Commit) (fresh : A) (t : Tree A) → staying w c (f fresh) (map_tree f t) ≡ map (map_order f) (staying w c fresh t)
   staying-map w c fresh t = grind (arith, readied-map, levels-map, joined, dropped_for-map, followed-map)
