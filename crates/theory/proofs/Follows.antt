@@ -468,10 +468,33 @@ module _ (f : ℕ) (commits : ℕ → Commit) (n : ℕ) where
   now-permitted = permitted (group f commits n).epoch (commits n) (group f commits n).tree
 
 pub follows : Follows
-follows f commits n m h s other x d = grind (arith, message-done, follow-commit, now-permitted, group-done, unequal, had, group-refused)
+follows f commits n m h s other x d =
+    let c = commits n in
+    let g = group f commits n in
+    elim (decided (allowed c g)) [
+      | inl a ↦
+          rw (message-done f commits n a)
+          (follow-commit c g m (now-permitted f commits n a) h (rw (group-done f commits n a) at s) (unequal c.committer m other) x
+          (rw (group-done f commits n a) at d))
+      | inr b ↦ had (rw (group-refused f commits n b) at d)
+    ]
 
 pub makes : Makes
-makes f commits n = grind (arith, make-commit, now-permitted, group-done, make-sealed, message-done, had, Memᴰ.tail, group-refused, Memᴰ.not-nil, message-refused)
+makes f commits n =
+    let c = commits n in
+    let g = group f commits n in
+    elim (decided (allowed c g)) [
+      | inl a ↦
+          record {
+            held = λ s d. make-commit c g (now-permitted f commits n a) s (rw (group-done f commits n a) at d);
+            sealed = λ b d. make-sealed c g (now-permitted f commits n a) b (rw (message-done f commits n a) at d);
+          }
+      | inr b ↦
+          record {
+            held = λ s d. had (Memᴰ.tail (Memᴰ.tail (rw (group-refused f commits n b) at d)));
+            sealed = λ b' d. absurd (Memᴰ.not-nil (rw (message-refused f commits n b) at d));
+          }
+    ]
 
 pub enters : Enters
 enters f commits n j e a s d = grind (arith, message-done, enter-any, now-permitted, group-done)

@@ -84,7 +84,9 @@ module _ (f : ℕ) (commits : ℕ → Commit) where
   not-healed :
       {es : List Exposure} {n : ℕ} → (N : ℕ) → (heal : (x : Exposure) → Memᴰ x es → Healed f commits N x) → Open f commits es n →
       (x : Exposure) × (m : Memᴰ x es) × ((at f commits n).epoch ≤ (at f commits (heal x m).commit).epoch)
-  not-healed N heal (here n x m s e) = grind (arith, epochs-grow)
+  not-healed N heal (here n x m s e) =
+      let b : (at f commits x.when).epoch ≤ (at f commits (heal x m).commit).epoch = epochs-grow f commits x.when (heal x m).commit (heal x m).since in
+      (x, m, omega arith)
   not-healed N heal (on {n} o x m g) =
       let z = heal x m in
       elim (cases_lt z.commit (suc n)) [
@@ -97,7 +99,11 @@ module _ (f : ℕ) (commits : ℕ → Commit) where
             absurd (omega arith))
         | inr l ↦ (x, m, epochs-grow f commits (suc n) z.commit l)
       ]
-  not-healed N heal (idle {n} o g) = grind (arith, history.refused, not-healed N heal o)
+  not-healed N heal (idle {n} o g) =
+      let y = not-healed N heal o in
+      let e : (at f commits (suc n)).epoch ≡ (at f commits n).epoch = ap (λ (h : Group). h.epoch) (history.refused f commits n g) in
+      let b : (at f commits n).epoch ≤ (at f commits (heal y.0 y.1).commit).epoch = y.2 in
+      (y.0, y.1, omega arith)
 
 pub past : Past
 past f commits es until n later k = grind (arith, read-before, main)

@@ -57,7 +57,14 @@ unfolding held_down held_at held is_level
 held-by-height zero m (leaf x) e = refl
 held-by-height zero m (node p l r) e = absurd e
 held-by-height (suc d) m (leaf x) e = absurd e
-held-by-height (suc d) m (node p l r) e = grind (arith, level-height, down-below, absent, held-by-height d m l, held-by-height d m r)
+held-by-height (suc d) m (node p l r) e =
+    let el = left-of (is_level d l) (is_level d r) e in
+    let er = right_of (is_level d l) (is_level d r) e in
+    let high : height l ≡ d = level-height d l el in
+    ap₂ ◌++◌
+    (cond-true (eqb (suc d) (suc (height l))) (cond (seated m l || seated m r) (node_key_held m p) []) (cond (seated m l) (held_at m (suc d) l) (held_at m (suc d) r)) (eq-eqb (suc d) (suc (height l)) (ap suc (sym high))))
+    (down-below m d p l r (omega arith) ∙ ap₂ (λ x y. cond (seated m l) x y) (held-by-height d m l el) (held-by-height d m r er))
+    ∙ joined (seated m l) (seated m r) (node_key_held m p) (held m l) (held m r) (absent m r)
 
 pub held_by_height_holds : HeldByHeight
 held_by_height_holds d m t e = held-by-height d m t e

@@ -170,7 +170,15 @@ module _ (f : ℕ) (commits : ℕ → Commit) where
 
   -- so an epoch has one commit
   pub one-commit : (m n : ℕ) → T (done m) → T (done n) → (at m).epoch ≡ (at n).epoch → m ≡ n
-  one-commit m n h g e = grind (arith, later)
+  one-commit m n h g e =
+      elim (cases_lt m n) [
+        | inl a ↦ absurd (let x : (at m).epoch < (at n).epoch = later m n h a in omega arith)
+        | inr b ↦
+            elim (cases_lt n m) [
+              | inl a ↦ absurd (let x : (at n).epoch < (at m).epoch = later n m g a in omega arith)
+              | inr c ↦ omega arith
+            ]
+      ]
 
   -- an epoch's secret has as many epochs mixed in
   pub mixes-epoch : (n : ℕ) → mixes (at n).secret ≡ (at n).epoch

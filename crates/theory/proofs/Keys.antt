@@ -146,7 +146,11 @@ module _ {K : Type 0} {m : ℕ} {own : K} {keys : ℕ → K} {b : Target K} wher
   unfolding Had
   path-target (elsewhere g) o x = absurd (Memᴰ.not-nil x)
   path-target (here g) o x = absurd (Memᴰ.not-nil x)
-  path-target (left_none {ts} g a) (at_node f p q) x = search (arith, common_steps, in_left, path-target a p)
+  path-target (left_none {ts} g a) (at_node f p q) x =
+      elim (Memᴰ.append_cases ts x) [
+        | inl y ↦ (let s = path-target a p y in record { part = s.part; below = in_left s.below; among = s.among; apart = s.apart; gets = s.gets })
+        | inr y ↦ absurd (Memᴰ.not-nil y)
+      ]
   path-target (left_some {l} {l'} {r} {n} {ts} {ks} e g a) (at_node f p q) x =
       elim (Memᴰ.append_cases ts x) [
         | inl y ↦
@@ -162,7 +166,11 @@ module _ {K : Type 0} {m : ℕ} {own : K} {keys : ℕ → K} {b : Target K} wher
               gets = λ w k h. inr (z.1, on_right h);
             })
       ]
-  path-target (right_none {ts} g a) (at_node f p q) x = search (arith, common_steps, in_right, path-target a q)
+  path-target (right_none {ts} g a) (at_node f p q) x =
+      elim (Memᴰ.append_cases ts x) [
+        | inl y ↦ (let s = path-target a q y in record { part = s.part; below = in_right s.below; among = s.among; apart = s.apart; gets = s.gets })
+        | inr y ↦ absurd (Memᴰ.not-nil y)
+      ]
   path-target (right_some {l} {r} {r'} {n} {ts} {ks} e g a) (at_node f p q) x =
       elim (Memᴰ.append_cases ts x) [
         | inl y ↦

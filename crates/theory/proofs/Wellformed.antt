@@ -497,7 +497,14 @@ facts-sound (node c l r) s =
     (facts-sound l (facts-left c l r s)) (facts-sound r (facts-right c l r s))
 
 pub well-formed-facts : {K : Type 0} (t : Tree K) → T (well_formed t) ↔ WellFormed t
-well-formed-facts t = grind (arith, numbered-all, sound-facts, consistent-sound, all-numbered, sound-consistent, facts-sound)
+well-formed-facts t = (
+  λ h.
+      record {
+        numbers = numbered-all t (and_left (numbered t) (consistent t) h);
+        consistent = sound-facts (consistent-sound t (and_right (numbered t) (consistent t) h));
+      },
+  λ s. both (numbered t) (consistent t) (all-numbered t s.numbers) (sound-consistent (facts-sound t s.consistent)),
+)
 
 pub well_formed_is : WellFormedIs
 well_formed_is = well-formed-facts
