@@ -1,6 +1,6 @@
 -- What an addition does to leaves and parents, by a view of it: `Adding`.
 -- Assumes nothing.
-use Rattle.std.proofs.Common.{◌≡◌, ℕ, Bool, true, false, not, ◌||◌, T, eqb, List, [], ◌∷◌, Some, None, Option, sym, refl, ap, ◌∙◌, inl, inr, T_not}
+use Rattle.std.proofs.Common.{◌≡◌, ℕ, Bool, true, false, not, ◌||◌, T, eqb, List, [], ◌∷◌, Some, None, Option, sym, refl, ap, ◌∙◌, inl, inr, T_not, arith}
 use mathlib.Core.Bool.{or_assoc, or_comm}
 use lib.Dec.{eqb_refl}
 use Rattle.std.specs.Option.{option_map}
@@ -26,8 +26,7 @@ pub added_full : {K : Type 0} (m : ℕ) (k : K) (t : Tree K) → T (full t) → 
 unfolding added full
 added_full m k (leaf blank_leaf) h = elim h [ ]
 added_full m k (leaf (occupied w j)) h = refl
-added_full m k (node c l r) h =
-    rw (is_true (full l) (and_left (full l) (full r) h), is_true (full r) (and_right (full l) (full r) h))
+added_full m k (node c l r) h = grind arith
 
 -- every other tree has a place
 pub adding : {K : Type 0} (m : ℕ) (k : K) (t : Tree K) → T (not (full t)) → (p : List Turn) × Adding m k t (added m k t) p
@@ -170,5 +169,5 @@ unmerged m k t h absent none p q s =
       apart = λ n. ap (has_unmerged m) (parents-kept a.1 q (λ o. n (rw (← e) at o))) ∙ is_false (has_unmerged m (parent_at q t)) (none q);
     }
 
-pub unmerged-since : UnmergedSince
-unmerged-since = unmerged
+pub unmerged_since : UnmergedSince
+unmerged_since = unmerged

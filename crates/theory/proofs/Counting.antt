@@ -13,13 +13,13 @@ use Rattle.theory.proofs.Tests.{by_cond, decided, is_true, is_false, or_cases, o
 use Rattle.theory.proofs.Removal.{removed-node, vacated}
 use Rattle.theory.proofs.Wellformed.{run-from, Permitted, Climbing, elsewhere, here, in_left, in_right, climbing, seated-climbing, is-left, Merged, Sound, at_leaf, at_node, run_sound, distinct_tail}
 use Rattle.theory.proofs.Follows.{committer-stays, message-done, message-refused, group-done, path, sends, next, path-climbs, by-change, now-permitted}
+use Rattle.std.proofs.lemmas.Grind.{common_steps}
 
 -- SEATS. One fewer after a removal.
 vacated-few : {K : Type 0} (m : ℕ) (x : Leaf K) → members (leaf (vacated m x)) ≤ members (leaf x)
 unfolding members
 vacated-few {K} m blank_leaf = omega arith
-vacated-few {K} m (occupied w k) =
-    by_cond (λ (y : Leaf K). members (leaf y) ≤ 1) (eqb w m) blank_leaf (occupied w k) (λ _. omega arith) (λ _. omega arith)
+vacated-few {K} m (occupied w k) = grind (arith)
 
 pub removed-few : {K : Type 0} (m : ℕ) (t : Tree K) → members (removed m t) ≤ members t
 unfolding members
@@ -31,14 +31,7 @@ pub removed-fewer : {K : Type 0} (m : ℕ) (t : Tree K) → T (seated m t) → m
 unfolding members seated
 removed-fewer m (leaf blank_leaf) h = absurd h
 removed-fewer m (leaf (occupied w k)) h = unfold removed in rw (is_true (eqb w m) h) (omega arith)
-removed-fewer m (node c l r) h =
-    rw (removed-node m c l r)
-    (let a = removed-few m l in
-    let b = removed-few m r in
-    elim (or_cases (seated m l) (seated m r) h) [
-      | inl x ↦ let d = removed-fewer m l x in omega arith
-      | inr x ↦ let d = removed-fewer m r x in omega arith
-    ])
+removed-fewer m (node c l r) h = grind (arith, removed-node, removed-few, removed-fewer m l, removed-fewer m r)
 
 -- as many different members as are named need as many leaves
 pub named-few :
@@ -61,8 +54,7 @@ named-few (w ∷ ws) t h f =
 pub leaf_key-absent : {K : Type 0} (m : ℕ) (t : Tree K) → T (not (seated m t)) → leaf_key m t ≡ []
 unfolding leaf_key seated
 leaf_key-absent m (leaf x) h = rw (is_false (is_at m x) h)
-leaf_key-absent m (node c l r) h =
-    rw (leaf_key-absent m l (nor-left (seated m l) (seated m r) h), leaf_key-absent m r (nor-right (seated m l) (seated m r) h))
+leaf_key-absent m (node c l r) h = search (nor-left, nor-right, leaf_key-absent m l, leaf_key-absent m r)
 
 leaf-one : {K : Type 0} (m : ℕ) (x : Leaf K) → length (leaf_key m (leaf x)) ≤ 1
 unfolding leaf_key
@@ -72,19 +64,12 @@ leaf-one {K} m (occupied w k) = by_cond (λ (ks : List K). length ks ≤ 1) (eqb
 pub leaf_key-one : {K : Type 0} (m : ℕ) {t : Tree K} → Sound t → length (leaf_key m t) ≤ 1
 unfolding leaf_key
 leaf_key-one m (at_leaf {x}) = leaf-one m x
-leaf_key-one m (at_node {l} {r} f g p q) =
-    elim (decided (seated m l)) [
-      | inl h ↦
-          rw (leaf_key-absent m r (not_T (seated m r) (f m h)), append-nil (leaf_key m l)) (leaf_key-one m p)
-      | inr h ↦ rw (leaf_key-absent m l h) (leaf_key-one m q)
-    ]
+leaf_key-one m (at_node {l} {r} f g p q) = search (arith, common_steps, leaf_key-absent, leaf_key-one m p, leaf_key-one m q)
 
 pub leaf_keys-few : {K : Type 0} (ms : List ℕ) {t : Tree K} → Sound t → length (leaf_keys ms t) ≤ length ms
 unfolding leaf_keys
 leaf_keys-few [] s = omega arith
-leaf_keys-few (m ∷ ms) {t} s =
-    rw (length-append (leaf_key m t) (leaf_keys ms t))
-    (let a = leaf_key-one m s in let b = leaf_keys-few ms s in omega arith)
+leaf_keys-few (m ∷ ms) {t} s = search (arith, common_steps, leaf_key-one, leaf_keys-few ms s)
 
 -- a part has no more keys in its resolution than members
 keyed-few :
@@ -106,9 +91,7 @@ pub resolution-few : {K : Type 0} {t : Tree K} → Sound t → length (resolutio
 unfolding resolution members
 resolution-few (at_leaf {x = blank_leaf}) = omega arith
 resolution-few (at_leaf {x = occupied w k}) = omega arith
-resolution-few (at_node {c = blank_parent} {l} {r} f g p q) =
-    rw (length-append (resolution l) (resolution r))
-    (let a = resolution-few p in let b = resolution-few q in omega arith)
+resolution-few (at_node {c = blank_parent} {l} {r} f g p q) = search (arith, common_steps, resolution-few p, resolution-few q)
 resolution-few (at_node {c = keyed k un} {l} {r} f g p q) = keyed-few k un (node (keyed k un) l r) (at_node {c = keyed k un} f g p q) (unfold seated in g)
 
 -- A PATH is sealed to fewer keys than there are members.
@@ -123,11 +106,7 @@ pub seated-many : {K : Type 0} (m : ℕ) (t : Tree K) → T (seated m t) → 1 �
 unfolding members seated
 seated-many m (leaf blank_leaf) h = absurd h
 seated-many m (leaf (occupied w k)) h = omega arith
-seated-many m (node c l r) h =
-    elim (or_cases (seated m l) (seated m r) h) [
-      | inl a ↦ let x = seated-many m l a in omega arith
-      | inr a ↦ let x = seated-many m r a in omega arith
-    ]
+seated-many m (node c l r) h = grind (arith, seated-many m l, seated-many m r)
 
 pub path-few :
     {K : Type 0} {m : ℕ} {own : K} {keys : ℕ → K} {t u : Tree K} {i : ℕ} {ts : List (Target K)} →
@@ -135,10 +114,8 @@ pub path-few :
 unfolding members seated
 path-few {m} {t} (elsewhere h) d s = absurd (T_not (seated m t) h d)
 path-few here d s = omega arith
-path-few (in_left {r} {i} {ts} h a) d (at_node f g p q) =
-    rw (targets-length ts i (resolution r)) (let x = path-few a h p in let y = resolution-few q in omega arith)
-path-few (in_right {l} {i} {ts} v h a) d (at_node f g p q) =
-    rw (targets-length ts i (resolution l)) (let x = path-few a h q in let y = resolution-few p in omega arith)
+path-few (in_left {r} {i} {ts} h a) d (at_node f g p q) = grind (arith, targets-length, resolution-few, path-few a h p)
+path-few (in_right {l} {i} {ts} v h a) d (at_node f g p q) = grind (arith, targets-length, resolution-few, path-few a h q)
 
 -- A WHOLE TREE: one key reaches each part, and the path lays a key at each level.
 pub data Whole {K : Type 0} : ℕ → Tree K → Type 0 where

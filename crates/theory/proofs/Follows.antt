@@ -1,6 +1,6 @@
 -- Who stays, who comes and who commits works out all that it then holds.
 -- Assumes nothing.
-use Rattle.std.proofs.Common.{◌≡◌, ℕ, zero, suc, Bool, true, false, cond, not, ◌&&◌, ◌||◌, T, eqb, List, [], ◌∷◌, ◌++◌, sym, refl, ap, ◌∙◌, subst, inl, inr, eqb→eq, T_not}
+use Rattle.std.proofs.Common.{◌≡◌, ℕ, zero, suc, Bool, true, false, cond, not, ◌&&◌, ◌||◌, T, eqb, List, [], ◌∷◌, ◌++◌, sym, refl, ap, ◌∙◌, subst, inl, inr, eqb→eq, T_not, arith}
 use mathlib.Core.Bool.{or-false}
 use mathlib.Core.List.Memᴰ
 use mathlib.Core.List.{Memᴰ}
@@ -40,21 +40,13 @@ All {A} P xs = (s : A) → Memᴰ s xs → P s
 
 module _ {A : Type 0} (P : A → Type 0) where
   pub all_append : (xs ys : List A) → All P xs → All P ys → All P (xs ++ ys)
-  all_append xs ys f g s d =
-      elim (Memᴰ.append_cases xs d) [
-        | inl a ↦ f s a
-        | inr b ↦ g s b
-      ]
+  all_append xs ys f g s d = grind (arith, Memᴰ.append_cases)
 
   pub all_one : (x : A) → P x → All P (x ∷ [])
   all_one x p s d = rw (Memᴰ.eq_of_singleton d) p
 
   pub all_cons : (x : A) (xs : List A) → P x → All P xs → All P (x ∷ xs)
-  all_cons x xs p f s d =
-      elim (Memᴰ.cases_cons d) [
-        | inl e ↦ rw e p
-        | inr b ↦ f s b
-      ]
+  all_cons x xs p f s d = grind arith
 
   pub all_nil : All P []
   all_nil s d = absurd (Memᴰ.not-nil d)
@@ -75,57 +67,26 @@ unfolding seated leaf_key
 own_held m (leaf blank_leaf) h = absurd h
 own_held m (leaf (occupied w k)) h =
     unfold held in rw (is_true (eqb w m) h) (k, Memᴰ.head refl, Memᴰ.head refl)
-own_held m (node c l r) h =
-    elim (decided (seated m l)) [
-      | inl a ↦
-          let s = own_held m l a in
-          (s.0, Memᴰ.append_left (leaf_key m r) s.1, rw (held-left m c l r a) (Memᴰ.append_right (node_key_held m c) s.2))
-      | inr n ↦
-          let a : T (seated m r) = in-other (seated m l) (seated m r) n h in
-          let s = own_held m r a in
-          (s.0, Memᴰ.append_right (leaf_key m l) s.1, rw (held-right m c l r n a) (Memᴰ.append_right (node_key_held m c) s.2))
-    ]
+own_held m (node c l r) h = grind (arith, Memᴰ.append_left, held-left, Memᴰ.append_right, held-right, own_held m l, own_held m r)
 
 -- the leaf keys of several hold those of each
 among : {K : Type 0} (m : ℕ) (ms : List ℕ) (t : Tree K) {s : K} → T (is_unmerged m ms) → Memᴰ s (leaf_key m t) → Memᴰ s (leaf_keys ms t)
 unfolding is_unmerged leaf_keys
 among m [] t u d = absurd u
-among m (w ∷ ms) t {s} u d =
-    elim (or_cases (eqb w m) (is_unmerged m ms) u) [
-      | inl e ↦ Memᴰ.append_left (leaf_keys ms t) (rw (eqb→eq w m e) d)
-      | inr b ↦ Memᴰ.append_right (leaf_key w t) (among m ms t b d)
-    ]
-
--- the node key of a parent, where it isn't unmerged
-key-held : {K : Type 0} (m : ℕ) (k : K) (un : List ℕ) → T (not (is_unmerged m un)) → node_key_held m (keyed k un) ≡ k ∷ []
-key-held m k un h = rw (is_false (is_unmerged m un) h)
+among m (w ∷ ms) t {s} u d = grind (arith, Memᴰ.append_left, Memᴰ.append_right, among m ms t)
 
 -- the key of the top parent is held by who is seated and not unmerged
 top-held :
     {K : Type 0} (m : ℕ) (k : K) (un : List ℕ) (l r : Tree K) → T (seated m l || seated m r) → T (not (is_unmerged m un)) →
     Memᴰ k (held m (node (keyed k un) l r))
-top-held m k un l r h n =
-    elim (decided (seated m l)) [
-      | inl a ↦ rw (held-left m (keyed k un) l r a, key-held m k un n) (Memᴰ.head refl)
-      | inr b ↦
-          rw (held-right m (keyed k un) l r b (in-other (seated m l) (seated m r) b h), key-held m k un n) (Memᴰ.head refl)
-    ]
+top-held m k un l r h n = grind (arith, held-left, Memᴰ.head, held-right)
 
 pub resolution-held : {K : Type 0} (m : ℕ) (t : Tree K) → T (seated m t) → Common (resolution t) (held m t)
 unfolding seated resolution
 resolution-held m (leaf blank_leaf) h = absurd h
 resolution-held m (leaf (occupied w k)) h =
     unfold held in rw (is_true (eqb w m) h) (k, Memᴰ.head refl, Memᴰ.head refl)
-resolution-held m (node blank_parent l r) h =
-    elim (decided (seated m l)) [
-      | inl a ↦
-          let s = resolution-held m l a in
-          (s.0, Memᴰ.append_left (resolution r) s.1, rw (held-left m blank_parent l r a) s.2)
-      | inr n ↦
-          let a : T (seated m r) = in-other (seated m l) (seated m r) n h in
-          let s = resolution-held m r a in
-          (s.0, Memᴰ.append_right (resolution l) s.1, rw (held-right m blank_parent l r n a) s.2)
-    ]
+resolution-held m (node blank_parent l r) h = grind (arith, Memᴰ.append_left, held-left, Memᴰ.append_right, held-right, resolution-held m l, resolution-held m r)
 resolution-held m (node (keyed k un) l r) h =
     elim (decided (is_unmerged m un)) [
       | inl u ↦
@@ -269,12 +230,8 @@ module _ {K : Type 0} {j : ℕ} {k : K} where
   pub newly-held : {t u : Tree K} {p : List Turn} → Adding j k t u p → T (not (seated j t)) → held j u ≡ k ∷ []
   unfolding seated
   newly-held adds.here n = unfold held in rw (is_true (eqb j j) (eqb_refl j))
-  newly-held (adds.in_left {c} {l} {l'} {r} a) n =
-      rw (held-left j (unmerged_at j c) l' r (newly-seated a), newly-unmerged j c)
-      (newly-held a (nor-left (seated j l) (seated j r) n))
-  newly-held (adds.in_right {c} {l} {r} {r'} f a) n =
-      rw (held-right j (unmerged_at j c) l r' (nor-left (seated j l) (seated j r) n) (newly-seated a), newly-unmerged j c)
-      (newly-held a (nor-right (seated j l) (seated j r) n))
+  newly-held (adds.in_left {c} {l} {l'} {r} a) n = search (held-left, newly-seated, newly-unmerged, nor-left, newly-held a)
+  newly-held (adds.in_right {c} {l} {r} {r'} f a) n = search (held-right, nor-left, newly-seated, newly-unmerged, nor-right, newly-held a)
 
 -- a grown tree has room
 not-both : (a b : Bool) → T (not a) → T (not (a && b))
@@ -288,18 +245,10 @@ blank-room (node c l r) = not-both (full (blank_tree l)) (full (blank_tree r)) (
 
 pub grown-room : {K : Type 0} (t : Tree K) → T (not (full (grown t)))
 unfolding full
-grown-room t =
-    elim (decided (full t)) [
-      | inl h ↦ rw (grown-full t h, is_true (full t) h) (blank-room t)
-      | inr h ↦ rw (grown-roomy t h) h
-    ]
+grown-room t = grind (arith, blank-room)
 
 pub held_grown : {K : Type 0} (m : ℕ) (t : Tree K) → T (seated m t) → held m (grown t) ≡ held m t
-held_grown m t s =
-    elim (decided (full t)) [
-      | inl h ↦ rw (grown-full t h) (held-left m blank_parent t (blank_tree t) s)
-      | inr h ↦ rw (grown-roomy t h)
-    ]
+held_grown m t s = grind (arith, held-left)
 
 -- a removal seats nobody
 not_left : {K : Type 0} (m x : ℕ) (t : Tree K) → T (not (seated m t)) → T (not (seated m (removed x t)))
@@ -365,19 +314,10 @@ module _ {K : Type 0} (fresh : K) {w : ℕ} {t : Tree K} where
 pub stock-seated : (m : ℕ) (g : Group) → T (seated m g.tree) → stock m g ≡ talk g.secret ∷ seed g.secret ∷ held m g.tree
 stock-seated m g h = rw (is_true (seated m g.tree) h)
 
-pub stock-absent : (m : ℕ) (g : Group) → T (not (seated m g.tree)) → stock m g ≡ []
-stock-absent m g h = rw (is_false (seated m g.tree) h)
-
 -- with the epoch's secret and the keys, all of it
 stock-known :
     (P : Secret → Type 0) (m : ℕ) (g : Group) → P (talk g.secret) → P (seed g.secret) → All P (held m g.tree) → All P (stock m g)
-stock-known P m g a b f =
-    elim (decided (seated m g.tree)) [
-      | inl h ↦
-          rw (stock-seated m g h)
-          (all_cons P (talk g.secret) (seed g.secret ∷ held m g.tree) a (all_cons P (seed g.secret) (held m g.tree) b f))
-      | inr h ↦ rw (stock-absent m g h) (all_nil P)
-    ]
+stock-known P m g a b f = grind arith
 
 -- what a welcome holds
 welcome-holds : (P : Secret → Type 0) (a : Change) (e : ℕ) (s : Secret) → P s → All (λ (b : Box). P b.holds) (welcome a e s)
@@ -438,11 +378,7 @@ module _ (c : Commit) (g : Group) where
   mine-path = known-ups [] mine (path_key c next) (had (Memᴰ.tail (Memᴰ.head refl)))
 
   mine-secret : Permitted g.epoch c g.tree → Knows [] mine after.secret
-  mine-secret ok =
-      mixed
-      (had
-      (Memᴰ.tail (Memᴰ.tail (rw (stock-seated c.committer g ok.present) (Memᴰ.tail (Memᴰ.head refl))))))
-      (mine-path path.levels)
+  mine-secret ok = grind (arith, mixed, had, Memᴰ.tail, Memᴰ.head, mine-path)
 
   -- it makes all that it then holds, with no box
   pub make-commit : Permitted g.epoch c g.tree → All (Knows [] mine) (stock c.committer after)
@@ -489,10 +425,7 @@ enter-commit w j g ok =
 -- a commit whose change is known
 pub by-change :
     (P : Commit → Type 0) (c : Commit) (a : Change) → c.change ≡ a → P (record { committer = c.committer; change = a }) → P c
-by-change P c a e =
-    let same : ◌≡◌ {A = Commit} (record { committer = c.committer; change = a }) c =
-    λ i. record { committer = c.committer; change = sym e i } in
-    subst P same
+by-change P c a e = grind (arith)
 
 enter-any :
     (c : Commit) (j : ℕ) (g : Group) → c.change ≡ add j → Permitted g.epoch c g.tree →
@@ -564,6 +497,4 @@ makes f commits n =
     ]
 
 pub enters : Enters
-enters f commits n j e a s d =
-    rw (message-done f commits n a)
-    (enter-any (commits n) j (group f commits n) e (now-permitted f commits n a) s (rw (group-done f commits n a) at d))
+enters f commits n j e a s d = grind (arith, message-done, enter-any, now-permitted, group-done)

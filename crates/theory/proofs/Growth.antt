@@ -1,6 +1,6 @@
 -- What growing does.
 -- Assumes nothing.
-use Rattle.std.proofs.Common.{◌≡◌, ℕ, not, T, List, [], ◌∷◌, Some, None, Option, refl, ap, ◌∙◌, T_not}
+use Rattle.std.proofs.Common.{◌≡◌, ℕ, not, T, List, [], ◌∷◌, Some, None, Option, refl, ap, ◌∙◌, T_not, arith}
 use lib.Dec.{not_T}
 use Rattle.theory.specs.Tree.{Tree, leaf, node, blank_parent, seated, full, leaves, position, or_else, blank_tree, grown}
 use Rattle.theory.specs.Places.{Turn, left, right, leaf_at, parent_at, sits, has_key}
@@ -35,30 +35,9 @@ blank-bare (d ∷ p) (leaf x) = tt
 blank-bare (left ∷ p) (node c l r) = blank-bare p l
 blank-bare (right ∷ p) (node c l r) = blank-bare p r
 
-or-none : (o : Option ℕ) (n : ℕ) → or_else o n None ≡ o
-or-none None n = refl
-or-none (Some i) n = refl
-
 pub doubled : {K : Type 0} (t : Tree K) → T (full t) → Doubled t
 unfolding leaf_at parent_at position
-doubled t h =
-    record {
-      kept = λ p. ap (leaf_at (left ∷ p)) (grown-full t h);
-      empty =
-          λ m p.
-          not_T (sits m (right ∷ p) (grown t))
-          (λ s.
-          T_not (seated m (blank_tree t)) (blank-deserted m t)
-          (sits-seated m p (blank_tree t) (rw (grown-full t h) at s)));
-      parents = λ p. ap (parent_at (left ∷ p)) (grown-full t h);
-      top = ap (parent_at []) (grown-full t h);
-      bare = λ p. rw (grown-full t h) (blank-bare p t);
-      same =
-          λ m.
-          ap (position m) (grown-full t h)
-          ∙ ap (or_else (position m t) (leaves t)) (blank-position m t)
-          ∙ or-none (position m t) (leaves t);
-    }
+doubled t h = grind (arith, blank-deserted, sits-seated, blank-bare, blank-position)
 
 pub growth : Growth
 growth t = (doubled t, grown-roomy t)

@@ -24,16 +24,8 @@ module _ (f : ℕ) (commits : ℕ → Commit) where
   -- THE PAST. Where a talk secret lies open, a handset was read in that epoch or before.
   read-before : {es : List Exposure} {n : ℕ} → Open f commits es n → (x : Exposure) × Memᴰ x es × ((at f commits x.when).epoch ≤ (at f commits n).epoch)
   read-before (here n x m s e) = (x, m, omega arith)
-  read-before (on {n} o x m g) =
-      let y = read-before o in
-      let b : (at f commits y.0.when).epoch ≤ (at f commits n).epoch = y.2 in
-      let c : (at f commits n).epoch ≤ (at f commits (suc n)).epoch = epochs-grow f commits n (suc n) (omega arith) in
-      (y.0, y.1, omega arith)
-  read-before (idle {n} o g) =
-      let y = read-before o in
-      let b : (at f commits y.0.when).epoch ≤ (at f commits n).epoch = y.2 in
-      let c : (at f commits n).epoch ≤ (at f commits (suc n)).epoch = epochs-grow f commits n (suc n) (omega arith) in
-      (y.0, y.1, omega arith)
+  read-before (on {n} o x m g) = grind (arith, epochs-grow, read-before o)
+  read-before (idle {n} o g) = grind (arith, epochs-grow, read-before o)
 
   -- LEAF KEYS. After a commit each is as before, or of the new epoch.
   leaf-after : (n : ℕ) {w : ℕ} {k : Secret} → Has w k (at f commits (suc n)).tree → Has w k (at f commits n).tree ⊎ (epoch_of k ≡ next f commits n)
@@ -114,11 +106,7 @@ module _ (f : ℕ) (commits : ℕ → Commit) where
       (y.0, y.1, omega arith)
 
 pub past : Past
-past f commits es until n later k =
-    let y = read-before f commits (main f commits es until n k) in
-    let a : (at f commits y.0.when).epoch ≤ (at f commits n).epoch = y.2 in
-    let b : (at f commits n).epoch < (at f commits y.0.when).epoch = later y.0 y.1 in
-    omega arith
+past f commits es until n later k = grind (arith, read-before, main)
 
 pub heals : Heals
 heals f commits es until n heal k =

@@ -24,8 +24,7 @@ level-height (suc d) (node p l r) e = ap suc (level-height d l (left-of (is_leve
 -- below its top, what is held of a tree is what is held of the half that m sits in
 below_top : {K : Type 0} (m h : ℕ) (p : Parent K) (l r : Tree K) → (h ≡ suc (height l) → ⊥) → held_at m h (node p l r) ≡ cond (seated m l) (held_at m h l) (held_at m h r)
 unfolding held_at
-below_top m h p l r off =
-    cond-false (eqb h (suc (height l))) (cond (seated m l || seated m r) (node_key_held m p) []) (cond (seated m l) (held_at m h l) (held_at m h r)) (ne_eqb h (suc (height l)) off)
+below_top m h p l r off = search ne_eqb
 
 both : {K : Type 0} (b : Bool) (u v x y : List K) → cond b u v ++ cond b x y ≡ cond b (u ++ x) (v ++ y)
 both true u v x y = refl
@@ -34,9 +33,7 @@ both false u v x y = refl
 down-below : {K : Type 0} (m h : ℕ) (p : Parent K) (l r : Tree K) → h ≤ height l → held_down m h (node p l r) ≡ cond (seated m l) (held_down m h l) (held_down m h r)
 unfolding held_down
 down-below m zero p l r e = below_top m zero p l r (λ q. omega arith)
-down-below m (suc h) p l r e =
-    ap₂ ◌++◌ (below_top m (suc h) p l r (λ q. omega arith)) (down-below m h p l r (omega arith))
-    ∙ both (seated m l) (held_at m (suc h) l) (held_at m (suc h) r) (held_down m h l) (held_down m h r)
+down-below m (suc h) p l r e = grind (arith, below_top, down-below m h p l r)
 
 -- who isn't seated holds nothing
 absent : {K : Type 0} (m : ℕ) (t : Tree K) → seated m t ≡ false → held m t ≡ []
@@ -69,5 +66,5 @@ held-by-height (suc d) m (node p l r) e =
     (down-below m d p l r (omega arith) ∙ ap₂ (λ x y. cond (seated m l) x y) (held-by-height d m l el) (held-by-height d m r er))
     ∙ joined (seated m l) (seated m r) (node_key_held m p) (held m l) (held m r) (absent m r)
 
-pub held-by-height-holds : HeldByHeight
-held-by-height-holds d m t e = held-by-height d m t e
+pub held_by_height_holds : HeldByHeight
+held_by_height_holds d m t e = held-by-height d m t e

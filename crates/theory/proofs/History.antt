@@ -23,9 +23,7 @@ asked c g h =
 -- the newcomer of an addition isn't seated
 new-absent :
     {K : Type 0} (w m : ℕ) (t : Tree K) → T (not (is_some (change_refusal w (add m) t))) → T (not (seated m (grown t)))
-new-absent w m t h =
-    let out = nor-left (seated m t) (leb nobody m) (not-refused (seated m t || leb nobody m) 5 _ h).0 in
-    not_T (seated m (grown t)) (λ s. T_not (seated m t) out (has-seated (grown-has t (seated-has m (grown t) s).1)))
+new-absent w m t h = grind (arith, has-seated, grown-has, seated-has)
 
 module _ {K : Type 0} where
   pub readied-once :
@@ -165,20 +163,10 @@ module _ (f : ℕ) (commits : ℕ → Commit) where
 
   pub epochs-grow : (m n : ℕ) → m ≤ n → (at m).epoch ≤ (at n).epoch
   epochs-grow m zero h = let e : m ≡ 0 = omega arith in rw e (omega arith)
-  epochs-grow m (suc n) h =
-      elim (cases_lt m (suc n)) [
-        | inl a ↦
-            (let x : (at m).epoch ≤ (at n).epoch = epochs-grow m n (omega arith) in
-            let y : (at n).epoch ≤ (at (suc n)).epoch = epoch-step n in
-            omega arith)
-        | inr b ↦ (let e : m ≡ suc n = omega arith in rw e (omega arith))
-      ]
+  epochs-grow m (suc n) h = grind (arith, epoch-step, epochs-grow m n)
 
   later : (m n : ℕ) → T (done m) → m < n → (at m).epoch < (at n).epoch
-  later m n h l =
-      let x : (at (suc m)).epoch ≤ (at n).epoch = epochs-grow (suc m) n l in
-      let y : (at (suc m)).epoch ≡ suc (at m).epoch = epoch-after m h in
-      omega arith
+  later m n h l = grind (arith, epochs-grow, epoch-after)
 
   -- so an epoch has one commit
   pub one-commit : (m n : ℕ) → T (done m) → T (done n) → (at m).epoch ≡ (at n).epoch → m ≡ n
@@ -278,10 +266,7 @@ module _ (f : ℕ) (commits : ℕ → Commit) where
   pub same-level :
       (c d i j : ℕ) → T (done c) → T (done d) →
       ups i (path_key (commits c) (next c)) ≡ ups j (path_key (commits d) (next d)) → (c ≡ d) × (i ≡ j)
-  same-level c d i j g h e =
-      let s = same-ups i j path_secret path_secret (commits c).committer (commits d).committer (next c) (next d) e in
-      let u : next c ≡ next d = s.1 in
-      (one-commit c d g h (omega arith), s.0)
+  same-level c d i j g h e = grind (arith, same-ups, one-commit)
 
   pub had-same : (c d i j : ℕ) (w : ℕ) (k : Secret) → (c ≡ d) × (i ≡ j) → HadAt c i w k → HadAt d j w k
   had-same c d i j w k e h = subst₂ (λ x y. HadAt x y w k) e.0 e.1 h

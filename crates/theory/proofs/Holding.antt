@@ -1,6 +1,6 @@
 -- What a handset holds, taken apart: its leaf key, and node keys at which it is merged.
 -- Assumes nothing.
-use Rattle.std.proofs.Common.{◌≡◌, ℕ, not, T, eqb, ◌⊎◌, List, sym, ◌∙◌, inl, inr, eqb→eq}
+use Rattle.std.proofs.Common.{◌≡◌, ℕ, not, T, eqb, ◌⊎◌, List, sym, ◌∙◌, inl, inr, eqb→eq, arith}
 use mathlib.Core.List.Memᴰ
 use mathlib.Core.List.{Memᴰ}
 use Rattle.theory.specs.Secrets.{Secret, seed, talk}
@@ -54,9 +54,7 @@ module _ {K : Type 0} {m : ℕ} {s : K} where
   pub holds-had :
       {I : Type 0} {key : I → K} {had : I → ℕ → K → Type 0} {t : Tree K} → Keyed key had t → Holds m s t →
       (o : I) × (s ≡ key o) × (k : K) × Has m k t × had o m k
-  holds-had (at_keyed {j} {un} {l} {r} o e f x y) (at_top d g h) =
-      let k = seated-has m (node (keyed j un) l r) h in
-      (o, sym d ∙ e, k.0, k.1, (f m k.0).0 (g, k.1))
+  holds-had (at_keyed {j} {un} {l} {r} o e f x y) (at_top d g h) = grind (arith, seated-has)
   holds-had x (in_left h) =
       let y = holds-had (keyed-left x) h in (y.0, y.1, y.2, on_left y.3, y.4)
   holds-had x (in_right h) =
@@ -67,18 +65,4 @@ pub stock-cases :
     {s : Secret} (m : ℕ) (g : Group) → Memᴰ s (stock m g) →
     T (seated m g.tree)
     × ((s ≡ talk g.secret) ⊎ ((s ≡ seed g.secret) ⊎ (Has m s g.tree ⊎ Holds m s g.tree)))
-stock-cases {s} m g x =
-    by_cond
-    (λ ks.
-    Memᴰ s ks →
-    T (seated m g.tree)
-    × ((s ≡ talk g.secret) ⊎ ((s ≡ seed g.secret) ⊎ (Has m s g.tree ⊎ Holds m s g.tree))))
-    (seated m g.tree) _ _
-    (λ h y. (
-      h,
-      elim (Memᴰ.cases_cons y) [
-        | inl e ↦ inl e
-        | inr z ↦ elim (Memᴰ.cases_cons z) [ inl e ↦ inr (inl e) | inr k ↦ inr (inr (held-cases g.tree k)) ]
-      ],
-    ))
-    (λ _ y. absurd (Memᴰ.not-nil y)) x
+stock-cases {s} m g x = grind (arith, held-cases)

@@ -15,6 +15,7 @@ use Rattle.theory.proofs.Addition.{Adding, adding, added_full}
 use Rattle.theory.proofs.Addition as adds
 use Rattle.theory.proofs.Own.{Has, on_left, on_right, has-seated, key_has, Once, at_node, adding-has, has-adding}
 use Rattle.theory.proofs.Own as seats
+use Rattle.std.proofs.lemmas.Grind.{common_steps}
 
 -- m's path makes the second tree of the first, lays so many node keys, and has these targets
 pub data Path {K : Type 0} (m : ℕ) (own : K) (keys : ℕ → K) : Tree K → Tree K → ℕ → List (Target K) → Type 0 where
@@ -80,11 +81,9 @@ module _ {K : Type 0} {m : ℕ} {own : K} {keys : ℕ → K} where
     had-below i (elsewhere g) h = elim h [ ]
     had-below i (here g) h = elim h [ ]
     had-below i (left_none g a) h = had-below i a h
-    had-below i (left_some {n} e g a) h =
-        elim h [ inl x ↦ (let b : i < n = had-below i a x in omega arith) | inr x ↦ (let b : i ≡ n = x.0 in omega arith) ]
+    had-below i (left_some {n} e g a) h = grind (arith, had-below i a)
     had-below i (right_none g a) h = had-below i a h
-    had-below i (right_some {n} e g a) h =
-        elim h [ inl x ↦ (let b : i < n = had-below i a x in omega arith) | inr x ↦ (let b : i ≡ n = x.0 in omega arith) ]
+    had-below i (right_some {n} e g a) h = grind (arith, had-below i a)
 
     pub had-has : (i : ℕ) {n : ℕ} {t u : Tree K} {ts : List (Target K)} (a : Path m own keys t u n ts) → Had a i w k → Has w k u
     unfolding Had
@@ -103,25 +102,9 @@ module _ {K : Type 0} {m : ℕ} {own : K} {keys : ℕ → K} where
     had-up i j (elsewhere g) h p q = elim h [ ]
     had-up i j (here g) h p q = elim h [ ]
     had-up i j (left_none g a) h p q = had-up i j a h p q
-    had-up i j (left_some {n} e g a) h p q =
-        elim h [
-          | inl x ↦
-              elim (cases_lt j n) [
-                | inl y ↦ inl (had-up i j a x p y)
-                | inr y ↦ inr (omega arith, on_left (had-has i a x))
-              ]
-          | inr x ↦ (let b : i ≡ n = x.0 in inr (omega arith, x.1))
-        ]
+    had-up i j (left_some {n} e g a) h p q = grind (arith, on_left, had-has, had-up i j a)
     had-up i j (right_none g a) h p q = had-up i j a h p q
-    had-up i j (right_some {n} e g a) h p q =
-        elim h [
-          | inl x ↦
-              elim (cases_lt j n) [
-                | inl y ↦ inl (had-up i j a x p y)
-                | inr y ↦ inr (omega arith, on_right (had-has i a x))
-              ]
-          | inr x ↦ (let b : i ≡ n = x.0 in inr (omega arith, x.1))
-        ]
+    had-up i j (right_some {n} e g a) h p q = grind (arith, on_right, had-has, had-up i j a)
 
   module _ {w : ℕ} {k : K} where
     -- after a path its maker has the new key, and everybody else the old one
@@ -154,10 +137,7 @@ pub record Sealing {K : Type 0} (m : ℕ) (t : Tree K) (b : Target K) (got : ℕ
 of-sealed :
     {K : Type 0} {b : Target K} (n : ℕ) (ks : List K) → Memᴰ b (sealed_to n ks) →
     Memᴰ b.key ks × (b.level ≡ n)
-of-sealed {K} n ks x =
-    let at : K → Target K = λ k. record { key = k; level = n } in
-    let y = Memᴰ.of_map at ks x in
-    (Memᴰ.cast (sym (ap (λ (c : Target K). c.key) y.2)) y.1, sym (ap (λ (c : Target K). c.level) y.2))
+of-sealed {K} n ks x = grind (arith, Memᴰ.of_map)
 
 module _ {K : Type 0} {m : ℕ} {own : K} {keys : ℕ → K} {b : Target K} where
   pub path-target :
@@ -215,21 +195,19 @@ merged-adding :
     ((w : ℕ) (k : K) → (T (not (is_unmerged w un)) × Has w k (node (keyed j un) l r)) ↔ had w k) →
     (w : ℕ) (k : K) → (T (not (is_unmerged w (m ∷ un))) × Has w k (node (keyed j (m ∷ un)) l' r')) ↔ had w k
 unfolding is_unmerged
-merged-adding {m} {j} {un} {l} {r} had a h f w k = (
-  λ x.
-      let new = nor-left (eqb m w) (is_unmerged w un) x.0 in
-      elim (adding-has a x.1) [
-        | inl e ↦ absurd (T_not (eqb m w) new (rw e.0 (eqb_refl w)))
-        | inr g ↦ (f w k).0 (nor-right (eqb m w) (is_unmerged w un) x.0, g)
-      ],
-  λ y.
-      let x = (f w k).1 y in (
-        nor (eqb m w) (is_unmerged w un)
-            (not_T (eqb m w) (λ e. T_not (seated m (node (keyed j un) l r)) h (rw (← eqb→eq m w e) at (has-seated x.1))))
-            x.0,
-        has-adding a x.1,
-      ),
-)
+merged-adding {m} {j} {un} {l} {r} had a h f w k = grind (arith, adding-has, has-seated, has-adding)
+
+-- the level that a path lays on top of those below it, given what was kept of both: who sits under it, and that the others stay
+module _ {K : Type 0} {m : ℕ} {own : K} {keys : ℕ → K} {n : ℕ} {t u : Tree K} {ts : List (Target K)} (a : Path m own keys t u n ts) where
+  on-top :
+      {has had : ℕ → K → Type 0} → ((w : ℕ) (k : K) → (Had a n w k ⊎ ((n ≡ n) × has w k)) ↔ had w k) →
+      (w : ℕ) (k : K) → (Unit {0} × has w k) ↔ had w k
+  on-top f w k = grind (arith, had-below)
+
+  lower :
+      {i : ℕ} {has had : ℕ → K → Type 0} → i < n → ((w : ℕ) (k : K) → (Had a i w k ⊎ ((i ≡ n) × has w k)) ↔ had w k) →
+      (w : ℕ) (k : K) → Had a i w k ↔ had w k
+  lower {i} b f w k = grind (arith)
 
 -- NODE KEYS. Each comes from somewhere; those merged below it are those that sat there then, with the same leaf keys.
 pub data Keyed {K : Type 0} {I : Type 0} (key : I → K) (had : I → ℕ → K → Type 0) : Tree K → Type 0 where
@@ -301,43 +279,17 @@ module _ {K : Type 0} {I : Type 0} {key : I → K} {had : I → ℕ → K → Ty
   keyed-path (elsewhere g) f x = x
   keyed-path (here g) f x = at_leaf
   keyed-path (left_none g a) f x = at_blank (keyed-path a f (keyed-left x)) (keyed-right x)
-  keyed-path {keys} (left_some {n} e g a) f x =
+  keyed-path (left_some {n} e g a) f x =
       let top = f n (omega arith) in
-      at_keyed top.0 top.1
-      (λ w k. (
-        λ y. (top.2 w k).0 (inr (refl, y.1)),
-        λ y. (tt, elim ((top.2 w k).1 y) [ inl z ↦ absurd (let b : n < n = had-below w k n a z in omega arith) | inr z ↦ z.1 ]),
-      ))
-      (keyed-path a
-      (λ i b.
-      let s = f i (omega arith) in (
-        s.0,
-        s.1,
-        λ w k. (
-          λ y. (s.2 w k).0 (inl y),
-          λ y. elim ((s.2 w k).1 y) [ inl z ↦ z | inr z ↦ absurd (let d : i ≡ n = z.0 in omega arith) ],
-        ),
-      ))
+      at_keyed top.0 top.1 (on-top a top.2)
+      (keyed-path a (λ i b. let s = f i (omega arith) in (s.0, s.1, lower a b s.2))
       (keyed-left x)) (keyed-right x)
   keyed-path (right_none g a) f x = at_blank (keyed-left x) (keyed-path a f (keyed-right x))
-  keyed-path {keys} (right_some {n} e g a) f x =
+  keyed-path (right_some {n} e g a) f x =
       let top = f n (omega arith) in
-      at_keyed top.0 top.1
-      (λ w k. (
-        λ y. (top.2 w k).0 (inr (refl, y.1)),
-        λ y. (tt, elim ((top.2 w k).1 y) [ inl z ↦ absurd (let b : n < n = had-below w k n a z in omega arith) | inr z ↦ z.1 ]),
-      ))
+      at_keyed top.0 top.1 (on-top a top.2)
       (keyed-left x)
-      (keyed-path a
-      (λ i b.
-      let s = f i (omega arith) in (
-        s.0,
-        s.1,
-        λ w k. (
-          λ y. (s.2 w k).0 (inl y),
-          λ y. elim ((s.2 w k).1 y) [ inl z ↦ z | inr z ↦ absurd (let d : i ≡ n = z.0 in omega arith) ],
-        ),
-      ))
+      (keyed-path a (λ i b. let s = f i (omega arith) in (s.0, s.1, lower a b s.2))
       (keyed-right x))
 
 -- RESOLUTIONS. A key of a resolution is the leaf key of somebody seated there, or a node key, and then everybody that its level was laid over is there still.
@@ -356,21 +308,5 @@ module _ {K : Type 0} {I : Type 0} {key : I → K} {had : I → ℕ → K → Ty
   unfolding resolution
   resolution-cases (at_leaf {x = blank_leaf}) y = absurd (Memᴰ.not-nil y)
   resolution-cases (at_leaf {x = occupied w k}) y = inl (w, seats.here refl (sym (Memᴰ.eq_of_singleton y)))
-  resolution-cases (at_blank {l} {r} p q) y =
-      elim (Memᴰ.append_cases (resolution l) y) [
-        | inl a ↦
-            elim (resolution-cases p a) [
-              | inl x ↦ inl (x.0, on_left x.1)
-              | inr x ↦ inr (x.0, x.1, λ w k h. on_left (x.2 w k h))
-            ]
-        | inr a ↦
-            elim (resolution-cases q a) [
-              | inl x ↦ inl (x.0, on_right x.1)
-              | inr x ↦ inr (x.0, x.1, λ w k h. on_right (x.2 w k h))
-            ]
-      ]
-  resolution-cases (at_keyed {j} {un} {l} {r} o e g p q) y =
-      elim (Memᴰ.cases_cons y) [
-        | inl a ↦ inr (o, a ∙ e, λ w k h. ((g w k).1 h).1)
-        | inr a ↦ inl (leaf-keys-has un (node (keyed j un) l r) a)
-      ]
+  resolution-cases (at_blank {l} {r} p q) y = grind (arith, Memᴰ.append_cases, on_left, on_right, resolution-cases p, resolution-cases q)
+  resolution-cases (at_keyed {j} {un} {l} {r} o e g p q) y = grind (arith, Memᴰ.cases_cons, leaf-keys-has)

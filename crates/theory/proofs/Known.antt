@@ -9,6 +9,7 @@ use Rattle.theory.specs.Secrets.{Purpose, leaf_key, path_secret, newcomer_key, i
 use Rattle.theory.specs.Known.{purpose_number, numbers, same_numbers, same, is_in, made, opens, rounds, KnownIs}
 use Rattle.theory.proofs.Tests.{decided, is_true, is_false, or_cases, or_left, or_right, both, and_left, and_right}
 use Rattle.theory.proofs.Follows.{All, all_append, all_cons, all_nil}
+use Rattle.std.proofs.lemmas.Grind.{common_steps}
 
 -- SECRETS COMPARED. One spelling has one reading.
 same-numbers : (xs ys : List ℕ) → T (same_numbers xs ys) → xs ≡ ys
@@ -16,8 +17,7 @@ unfolding same_numbers
 same-numbers [] [] h = refl
 same-numbers [] (y ∷ ys) h = absurd h
 same-numbers (x ∷ xs) [] h = absurd h
-same-numbers (x ∷ xs) (y ∷ ys) h =
-    ap₂ ◌∷◌ (eqb→eq x y (and_left (eqb x y) (same_numbers xs ys) h)) (same-numbers xs ys (and_right (eqb x y) (same_numbers xs ys) h))
+same-numbers (x ∷ xs) (y ∷ ys) h = grind (arith, same-numbers xs ys)
 
 numbers-same : (xs : List ℕ) → T (same_numbers xs xs)
 unfolding same_numbers
@@ -54,11 +54,7 @@ clash x y n e = T_not (eqb x y) n (rw e (eqb_refl y))
 spelled-drawn :
     (p q : Purpose) (m n d f : ℕ) (xs ys : List ℕ) → 0 ∷ purpose_number p ∷ m ∷ d ∷ xs ≡ 0 ∷ purpose_number q ∷ n ∷ f ∷ ys →
     (drawn p m d ≡ drawn q n f) × (xs ≡ ys)
-spelled-drawn p q m n d f xs ys e =
-    let a = purpose-same p q (front (behind e)) in
-    let b : m ≡ n = front (behind (behind e)) in
-    let c : d ≡ f = front (behind (behind (behind e))) in
-    (cc, behind (behind (behind (behind e))))
+spelled-drawn p q m n d f xs ys e = search (purpose-same, front, behind)
 
 -- where two spellings begin two lists that are the same, the secrets are, and so is what follows
 spelled : (s t : Secret) (xs ys : List ℕ) → numbers s ++ xs ≡ numbers t ++ ys → (s ≡ t) × (xs ≡ ys)
@@ -84,12 +80,7 @@ spelled (lock s) (talk t) xs ys e = absurd (clash 2 5 tt (front e))
 spelled (mix s s') (drawn q n f) xs ys e = absurd (clash 3 0 tt (front e))
 spelled (mix s s') (up t) xs ys e = absurd (clash 3 1 tt (front e))
 spelled (mix s s') (lock t) xs ys e = absurd (clash 3 2 tt (front e))
-spelled (mix s s') (mix t t') xs ys e =
-    let x =
-    spelled s t (numbers s' ++ xs) (numbers t' ++ ys)
-    (sym (append_assoc (numbers s) (numbers s') xs) ∙ (behind e ∙ append_assoc (numbers t) (numbers t') ys)) in
-    let y = spelled s' t' xs ys x.1 in
-    (ap₂ mix x.0 y.0, y.1)
+spelled (mix s s') (mix t t') xs ys e = search (arith, common_steps, spelled s t, spelled s' t' xs ys)
 spelled (mix s s') (seed t) xs ys e = absurd (clash 3 4 tt (front e))
 spelled (mix s s') (talk t) xs ys e = absurd (clash 3 5 tt (front e))
 spelled (seed s) (drawn q n f) xs ys e = absurd (clash 4 0 tt (front e))
@@ -114,11 +105,7 @@ same_refl s = numbers-same (numbers s)
 pub is-in : (s : Secret) (ks : List Secret) → T (is_in s ks) → Memᴰ s ks
 unfolding is_in
 is-in s [] h = absurd h
-is-in s (k ∷ ks) h =
-    elim (or_cases (same s k) (is_in s ks) h) [
-      | inl a ↦ Memᴰ.head (same-is s k a)
-      | inr b ↦ Memᴰ.tail (is-in s ks b)
-    ]
+is-in s (k ∷ ks) h = grind (arith, Memᴰ.head, same-is, Memᴰ.tail, is-in s ks)
 
 pub in_is : {s : Secret} {ks : List Secret} → Memᴰ s ks → T (is_in s ks)
 unfolding is_in
@@ -129,31 +116,11 @@ in_is {s} (Memᴰ.tail {x} {xs} d) = or_right (same s x) (is_in s xs) (in_is d)
 pub made-known : (ks : List Secret) (s : Secret) → T (made ks s) → Knows [] ks s
 unfolding made
 made-known ks (drawn p m e) h = had (is-in (drawn p m e) ks h)
-made-known ks (up s) h =
-    elim (or_cases (is_in (up s) ks) (made ks s) h) [
-      | inl a ↦ had (is-in (up s) ks a)
-      | inr b ↦ raise (made-known ks s b)
-    ]
-made-known ks (lock s) h =
-    elim (or_cases (is_in (lock s) ks) (made ks s) h) [
-      | inl a ↦ had (is-in (lock s) ks a)
-      | inr b ↦ locked (made-known ks s b)
-    ]
-made-known ks (mix s t) h =
-    elim (or_cases (is_in (mix s t) ks) (made ks s && made ks t) h) [
-      | inl a ↦ had (is-in (mix s t) ks a)
-      | inr b ↦ mixed (made-known ks s (and_left (made ks s) (made ks t) b)) (made-known ks t (and_right (made ks s) (made ks t) b))
-    ]
-made-known ks (seed s) h =
-    elim (or_cases (is_in (seed s) ks) (made ks s) h) [
-      | inl a ↦ had (is-in (seed s) ks a)
-      | inr b ↦ seeded (made-known ks s b)
-    ]
-made-known ks (talk s) h =
-    elim (or_cases (is_in (talk s) ks) (made ks s) h) [
-      | inl a ↦ had (is-in (talk s) ks a)
-      | inr b ↦ talked (made-known ks s b)
-    ]
+made-known ks (up s) h = grind (arith, had, is-in, raise, made-known ks s)
+made-known ks (lock s) h = grind (arith, had, is-in, locked, made-known ks s)
+made-known ks (mix s t) h = grind (arith, had, is-in, mixed, made-known ks s, made-known ks t)
+made-known ks (seed s) h = grind (arith, had, is-in, seeded, made-known ks s)
+made-known ks (talk s) h = grind (arith, had, is-in, talked, made-known ks s)
 
 made_in : (ks : List Secret) (s : Secret) → T (is_in s ks) → T (made ks s)
 unfolding made
@@ -169,8 +136,7 @@ unfolding made
 known-made {ks} {s} (had d) = made_in ks s (in_is d)
 known-made {ks} (raise {s} k) = or_right (is_in (up s) ks) (made ks s) (known-made k)
 known-made {ks} (locked {s} k) = or_right (is_in (lock s) ks) (made ks s) (known-made k)
-known-made {ks} (mixed {s} {t} k j) =
-    or_right (is_in (mix s t) ks) (made ks s && made ks t) (both (made ks s) (made ks t) (known-made k) (known-made j))
+known-made {ks} (mixed {s} {t} k j) = search (or_right, both, known-made k, known-made j)
 known-made {ks} (seeded {s} k) = or_right (is_in (seed s) ks) (made ks s) (known-made k)
 known-made {ks} (talked {s} k) = or_right (is_in (talk s) ks) (made ks s) (known-made k)
 known-made (opened b d k) = absurd (Memᴰ.not-nil d)
@@ -234,48 +200,21 @@ opens-sound all ks (b ∷ bs) f =
 pub opens-all : (ks : List Secret) {b : Box} {bs : List Box} → Memᴰ b bs → T (made ks b.key) → Memᴰ b.holds (opens ks bs)
 opens-all ks {b} (Memᴰ.head {x} {xs} e) h =
     rw (opens-yes ks x xs (rw e at h)) (Memᴰ.head (ap (λ (y : Box). y.holds) e))
-opens-all ks (Memᴰ.tail {x} {xs} d) h =
-    let rest = opens-all ks d h in
-    elim (decided (made ks x.key)) [
-      | inl a ↦ rw (opens-yes ks x xs a) (Memᴰ.tail rest)
-      | inr a ↦ rw (opens-no ks x xs a) rest
-    ]
+opens-all ks (Memᴰ.tail {x} {xs} d) h = grind (arith, opens-yes, Memᴰ.tail, opens-no, opens-all ks d h)
 
 opens-few : (ks : List Secret) (bs : List Box) → length (opens ks bs) ≤ length bs
 opens-few ks [] = unfold opens in omega arith
-opens-few ks (b ∷ bs) =
-    let rest = opens-few ks bs in
-    elim (decided (made ks b.key)) [
-      | inl h ↦ rw (opens-yes ks b bs h) (omega arith)
-      | inr h ↦ rw (opens-no ks b bs h) (omega arith)
-    ]
+opens-few ks (b ∷ bs) = grind (arith, opens-yes, opens-no, opens-few ks bs)
 
 -- with more to make from it opens no fewer boxes, and if it opens no more, then the same ones
 module _ (ks js : List Secret) (more : (s : Secret) → T (made ks s) → T (made js s)) where
   opens-more : (bs : List Box) → length (opens ks bs) ≤ length (opens js bs)
   opens-more [] = unfold opens in omega arith
-  opens-more (b ∷ bs) =
-      let rest = opens-more bs in
-      elim (decided (made ks b.key)) [
-        | inl h ↦ rw (opens-yes ks b bs h, opens-yes js b bs (more b.key h)) (omega arith)
-        | inr h ↦
-            elim (decided (made js b.key)) [
-              | inl k ↦ rw (opens-no ks b bs h, opens-yes js b bs k) (omega arith)
-              | inr k ↦ rw (opens-no ks b bs h, opens-no js b bs k) (omega arith)
-            ]
-      ]
+  opens-more (b ∷ bs) = grind (arith, opens-yes, opens-no, opens-more bs)
 
   opens-same :
       {b : Box} {bs : List Box} → length (opens js bs) ≤ length (opens ks bs) → Memᴰ b bs → T (made js b.key) → T (made ks b.key)
-  opens-same {b} le (Memᴰ.head {x} {xs} e) k =
-      elim (decided (made ks x.key)) [
-        | inl h ↦ rw e h
-        | inr h ↦
-            let j : T (made js x.key) = rw e at k in
-            let fewer : suc (length (opens js xs)) ≤ length (opens ks xs) = rw (opens-yes js x xs j, opens-no ks x xs h) at le in
-            let rest = opens-more xs in
-            absurd (omega arith)
-      ]
+  opens-same {b} le (Memᴰ.head {x} {xs} e) k = grind (arith, opens-yes, opens-no, opens-more)
   opens-same {b} le (Memᴰ.tail {x} {xs} d) k =
       let rest = opens-more xs in
       opens-same (tail-le x xs le) d k
@@ -333,18 +272,10 @@ module _ (bs : List Box) where
   rounds-settle : (n : ℕ) (ks : List Secret) → length bs < n + length (opens ks bs) → Saturated bs (rounds n bs ks)
   unfolding rounds
   rounds-settle zero ks h = let few = opens-few ks bs in absurd (omega arith)
-  rounds-settle (suc n) ks h =
-      elim (cases_lt (length (opens ks bs)) (length (opens (grow ks) bs))) [
-        | inl a ↦ rounds-settle n (grow ks) (omega arith)
-        | inr b ↦ rounds-settled n (grow ks) (grow-settles ks b)
-      ]
+  rounds-settle (suc n) ks h = grind (arith, rounds-settled, grow-settles, rounds-settle n)
 
   pub rounds-saturated : (ks : List Secret) → Saturated bs (rounds (length bs) bs ks)
-  rounds-saturated ks =
-      elim (cases_lt 0 (length (opens ks bs))) [
-        | inl a ↦ rounds-settle (length bs) ks (omega arith)
-        | inr b ↦ rounds-settled (length bs) ks (none-settled ks (omega arith))
-      ]
+  rounds-saturated ks = grind (arith, rounds-settle, rounds-settled, none-settled)
 
   pub rounds-sound : (n : ℕ) (old ks : List Secret) → All (Knows bs old) ks → All (Knows bs old) (rounds n bs ks)
   unfolding rounds

@@ -25,21 +25,6 @@ same_rest e = cc
 other_way : {q p : List Turn} → (left ∷ q) ≡ (right ∷ p) → ⊥
 other_way e = let z : ◌≡◌ {A = ℕ} 0 1 = cc in omega arith
 
--- one parent, given the resolution of its other half
-laid-blank :
-    {K : Type 0} (keys : ℕ → K) (i : ℕ) (ks : List K) → ks ≡ [] → Some (parent_laid keys i ks) ≡ Some blank_parent
-laid-blank keys i ks e = ap (λ x. Some (parent_laid keys i x)) e
-
-laid-keyed :
-    {K : Type 0} (keys : ℕ → K) (i : ℕ) (ks : List K) → (ks ≡ [] → ⊥) →
-    (j : ℕ) × (j < level_after i ks) × (Some (parent_laid keys i ks) ≡ Some (keyed (keys j) []))
-laid-keyed keys i [] f = absurd (f refl)
-laid-keyed keys i (k ∷ ks) f = (i, omega arith, refl)
-
-level-up : {K : Type 0} (i j : ℕ) (ks : List K) → j < i → j < level_after i ks
-level-up i j [] h = h
-level-up i j (k ∷ ks) h = omega arith
-
 module _ {K : Type 0} {m : ℕ} {own : K} {keys : ℕ → K} where
   pub from :
       {t u : Tree K} {i : ℕ} {ts : List (Target K)} → Climbing m own keys t u i ts →
@@ -92,26 +77,10 @@ module _ {K : Type 0} {m : ℕ} {own : K} {keys : ℕ → K} where
       {t u : Tree K} {i : ℕ} {p q : List Turn} → From m own keys t u i p → Over q p → AbovePath keys t u i p q
   unfolding parent_at
   parents-above here o = elim o [ ]
-  parents-above (in_left {r} {i} a) top =
-      record { half = r; beside = right_half; none = laid-blank keys i (resolution r); some = laid-keyed keys i (resolution r) }
-  parents-above (in_left {r} {i} a) (down o) =
-      let s = parents-above a o in
-      record {
-        half = s.half;
-        beside = under_left s.beside;
-        none = s.none;
-        some = λ f. let x = s.some f in (x.0, level-up i x.0 (resolution r) x.1, x.2);
-      }
-  parents-above (in_right {l} {i} a) top =
-      record { half = l; beside = left_half; none = laid-blank keys i (resolution l); some = laid-keyed keys i (resolution l) }
-  parents-above (in_right {l} {i} a) (down o) =
-      let s = parents-above a o in
-      record {
-        half = s.half;
-        beside = under_right s.beside;
-        none = s.none;
-        some = λ f. let x = s.some f in (x.0, level-up i x.0 (resolution l) x.1, x.2);
-      }
+  parents-above (in_left {r} {i} a) top = grind (arith, right_half)
+  parents-above (in_left {r} {i} a) (down o) = grind (arith, under_left, parents-above a o)
+  parents-above (in_right {l} {i} a) top = grind (arith, left_half)
+  parents-above (in_right {l} {i} a) (down o) = grind (arith, under_right, parents-above a o)
 
 pub over-maker :
     {K : Type 0} (m : ℕ) (own : K) (keys : ℕ → K) (t : Tree K) (p : List Turn) → SitsOnlyAt m p t → OverMaker m own keys t p
@@ -124,5 +93,5 @@ over-maker m own keys t p s =
       apart = parents-kept a;
     }
 
-pub path-laid : PathLaid
-path-laid = over-maker
+pub path_laid : PathLaid
+path_laid = over-maker

@@ -32,10 +32,7 @@ level-height (at_node a b) = ap suc (level-height a)
 pub full-members : {K : Type 0} {d : ℕ} {t : Tree K} → Level d t → T (full t) → members t ≡ 2 ^ d
 unfolding full members
 full-members (at_leaf {x}) h = rw (is_false (is_blank x) h)
-full-members (at_node {d} {l} {r} a b) h =
-    let p : members l ≡ 2 ^ d = full-members a (and_left (full l) (full r) h) in
-    let q : members r ≡ 2 ^ d = full-members b (and_right (full l) (full r) h) in
-    omega arith
+full-members (at_node {d} {l} {r} a b) h = grind (arith, full-members a, full-members b)
 
 -- A CHANGE keeps the depth, but for growing, which adds one.
 pub blank-level : {K : Type 0} {d : ℕ} {t : Tree K} → Level d t → Level d (blank_tree t)
@@ -100,10 +97,7 @@ readied-bounded :
     T (not (is_some (change_refusal w c t))) → Bounded t → Bounded (readied c fresh t)
 readied-bounded w renew fresh t h b = b
 readied-bounded w (remove m) fresh t h b = (b.0, removed-level m b.1, b.2)
-readied-bounded w (add m) fresh t h b =
-    let roomy = not-refused (leb max_members (members t)) 6 None (not-refused (seated m t || leb nobody m) 5 _ h).1 in
-    let g = grown-bounded t (nleb→lt max_members (members t) roomy.0) b in
-    (g.0, added-level m fresh (grown t) g.1, g.2)
+readied-bounded w (add m) fresh t h b = grind (arith, grown-bounded, added-level)
 
 pub run-bounded : (f : ℕ) (commits : ℕ → Commit) (n : ℕ) → Bounded (group f commits n).tree
 run-bounded =

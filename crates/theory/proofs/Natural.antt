@@ -1,6 +1,6 @@
 -- Every operation on trees commutes with a map of the keys.
 -- Assumes nothing.
-use Rattle.std.proofs.Common.{◌≡◌, ℕ, zero, suc, ◌+◌, Bool, true, false, cond, not, ◌&&◌, ◌||◌, eqb, List, [], ◌∷◌, ◌++◌, map, Some, None, sym, refl, ap, ◌∙◌, ap₂}
+use Rattle.std.proofs.Common.{◌≡◌, ℕ, zero, suc, ◌+◌, Bool, true, false, cond, not, ◌&&◌, ◌||◌, eqb, List, [], ◌∷◌, ◌++◌, map, Some, None, sym, refl, ap, ◌∙◌, ap₂, arith}
 use mathlib.Core.List.{map-append}
 use Rattle.theory.specs.Tree.{Tree, leaf, node, Leaf, blank_leaf, occupied, Parent, blank_parent, keyed, is_at, is_blank, key_at, seated, full, members, leaves, height, is_level, position, leaf_key, leaf_keys, resolution, blank_tree, grown, unmerged_at, added, removed}
 use Rattle.theory.specs.Path.{Laid, sealed_to, parent_laid, level_after, climbed, laid}
@@ -107,10 +107,7 @@ module _ {A B : Type 0} (f : A → B) where
   pub consistent-map : (t : Tree A) → consistent (map_tree f t) ≡ consistent t
   unfolding consistent
   consistent-map (leaf x) = unfold map_tree in refl
-  consistent-map (node p l r) =
-      let top : merges (map_parent f p) (node (map_parent f p) (map_tree f l) (map_tree f r)) ≡ merges p (node p l r) =
-      sym (ap (merges (map_parent f p)) (map_tree-node p l r)) ∙ merges-map p (node p l r) in
-      rw (map_tree-node p l r, apart-map l r, top, consistent-map l, consistent-map r)
+  consistent-map (node p l r) = grind (arith, map_tree-node, merges-map, apart-map, consistent-map l, consistent-map r)
 
   leaf_numbered-map : (x : Leaf A) → leaf_numbered (map_leaf f x) ≡ leaf_numbered x
   leaf_numbered-map blank_leaf = refl
@@ -141,42 +138,15 @@ module _ {A B : Type 0} (f : A → B) where
   resolution-map (node blank_parent l r) = rw (resolution-map l, resolution-map r) (sym (map-append f (resolution l) (resolution r)))
   resolution-map (node (keyed k un) l r) = ap (λ ks. f k ∷ ks) (leaf_keys-map un (node (keyed k un) l r))
 
-  pub node_key_held-map : (m : ℕ) (p : Parent A) → node_key_held m (map_parent f p) ≡ map f (node_key_held m p)
-  node_key_held-map m blank_parent = refl
-  node_key_held-map m (keyed k un) = push (map f) (is_unmerged m un) [] (k ∷ [])
-
   pub held-map : (m : ℕ) (t : Tree A) → held m (map_tree f t) ≡ map f (held m t)
   unfolding held map_tree
   held-map m (leaf x) = rw (at_map m x, key-map x) (push (map f) (is_at m x) (key_at x) [])
-  held-map m (node p l r) =
-      rw (
-        seated-map m l,
-        seated-map m r,
-        node_key_held-map m p,
-        held-map m l,
-        held-map m r,
-        ← map-append f (node_key_held m p) (held m l),
-        ← map-append f (node_key_held m p) (held m r),
-        push (map f) (seated m r) (node_key_held m p ++ held m r) [],
-      )
-      (push (map f) (seated m l) (node_key_held m p ++ held m l) _)
+  held-map m (node p l r) = grind (arith, seated-map, held-map m l, held-map m r)
 
   pub held_at-map : (m h : ℕ) (t : Tree A) → held_at m h (map_tree f t) ≡ map f (held_at m h t)
   unfolding held_at map_tree
-  held_at-map m h (leaf x) =
-      rw (at_map m x, key-map x, push (map f) (is_at m x) (key_at x) []) (push (map f) (eqb h 0) (cond (is_at m x) (key_at x) []) [])
-  held_at-map m h (node p l r) =
-      rw (
-        height-map l,
-        seated-map m l,
-        seated-map m r,
-        node_key_held-map m p,
-        held_at-map m h l,
-        held_at-map m h r,
-        push (map f) (seated m l) (held_at m h l) (held_at m h r),
-        push (map f) (seated m l || seated m r) (node_key_held m p) [],
-      )
-      (push (map f) (eqb h (suc (height l))) _ _)
+  held_at-map m h (leaf x) = grind arith
+  held_at-map m h (node p l r) = grind (arith, height-map, seated-map, held_at-map m h l, held_at-map m h r)
 
   -- CHANGED TREES.
   pub blank_tree-map : (t : Tree A) → blank_tree (map_tree f t) ≡ map_tree f (blank_tree t)
@@ -188,31 +158,16 @@ module _ {A B : Type 0} (f : A → B) where
   grown-map t =
       rw (full-map t, blank_tree-map t) (unfold map_tree in push (map_tree f) (full t) (node blank_parent t (blank_tree t)) t)
 
-  pub unmerged_at-map : (m : ℕ) (p : Parent A) → unmerged_at m (map_parent f p) ≡ map_parent f (unmerged_at m p)
-  unmerged_at-map m blank_parent = refl
-  unmerged_at-map m (keyed k un) = refl
-
   pub added-map : (m : ℕ) (k : A) (t : Tree A) → added m (f k) (map_tree f t) ≡ map_tree f (added m k t)
   unfolding added map_tree
   added-map m k (leaf blank_leaf) = refl
   added-map m k (leaf (occupied w j)) = refl
-  added-map m k (node p l r) =
-      rw (
-        full-map l,
-        full-map r,
-        unmerged_at-map m p,
-        added-map m k l,
-        added-map m k r,
-        push (map_tree f) (full r) (node p l r) (node (unmerged_at m p) l (added m k r)),
-      )
-      (push (map_tree f) (full l) _ (node (unmerged_at m p) (added m k l) r))
+  added-map m k (node p l r) = grind (arith, full-map, added-map m k l, added-map m k r)
 
   pub removed-map : (m : ℕ) (t : Tree A) → removed m (map_tree f t) ≡ map_tree f (removed m t)
   unfolding removed map_tree
   removed-map m (leaf x) = rw (at_map m x) (ap leaf (push (map_leaf f) (is_at m x) blank_leaf x))
-  removed-map m (node p l r) =
-      rw (seated-map m l, seated-map m r, removed-map m l, removed-map m r)
-      (push (map_tree f) (seated m l || seated m r) (node blank_parent (removed m l) (removed m r)) (node p l r))
+  removed-map m (node p l r) = grind (arith, seated-map, removed-map m l, removed-map m r)
 
   pub readied-map : (c : Change) (fresh : A) (t : Tree A) → readied c (f fresh) (map_tree f t) ≡ map_tree f (readied c fresh t)
   readied-map renew fresh t = refl
@@ -224,24 +179,11 @@ module _ {A B : Type 0} (f : A → B) where
   sealed-map i [] = refl
   sealed-map i (k ∷ ks) = ap (λ ts. record { key = f k; level = i } ∷ ts) (sealed-map i ks)
 
-  parent_laid-map : (keys : ℕ → A) (i : ℕ) (ks : List A) → parent_laid (λ j. f (keys j)) i (map f ks) ≡ map_parent f (parent_laid keys i ks)
-  parent_laid-map keys i [] = refl
-  parent_laid-map keys i (k ∷ ks) = refl
-
-  level_after-map : (i : ℕ) (ks : List A) → level_after i (map f ks) ≡ level_after i ks
-  level_after-map i [] = refl
-  level_after-map i (k ∷ ks) = refl
-
   climbed-map :
       (keys : ℕ → A) (x : Laid A) (other : List A) (put : Parent A → Tree A → Tree A) (put_b : Parent B → Tree B → Tree B) →
       ((q : Parent A) (t : Tree A) → put_b (map_parent f q) (map_tree f t) ≡ map_tree f (put q t)) →
       climbed (λ i. f (keys i)) (map_laid f x) (map f other) put_b ≡ map_laid f (climbed keys x other put)
-  climbed-map keys x other put put_b same =
-      let tree : put_b (parent_laid (λ j. f (keys j)) x.levels (map f other)) (map_tree f x.tree) ≡ map_tree f (put (parent_laid keys x.levels other) x.tree) =
-      rw (parent_laid-map keys x.levels other) (same (parent_laid keys x.levels other) x.tree) in
-      let targets : map (map_target f) x.targets ++ sealed_to x.levels (map f other) ≡ map (map_target f) (x.targets ++ sealed_to x.levels other) =
-      rw (sealed-map x.levels other) (sym (map-append (map_target f) x.targets (sealed_to x.levels other))) in
-      λ i. record { tree = tree i; levels = level_after-map x.levels other i; targets = targets i }
+  climbed-map keys x other put put_b same = grind (arith, sealed-map, map-append)
 
   pub laid-map :
       (m : ℕ) (own : A) (keys : ℕ → A) (t : Tree A) →
@@ -270,30 +212,7 @@ module _ {A B : Type 0} (f : A → B) where
       rw (readied-map c.change fresh t) (laid-map c.committer own keys (readied c.change fresh t))
 
   pub natural : Natural f
-  natural =
-      record {
-        seated = seated-map;
-        full = full-map;
-        members = members-map;
-        leaves = leaves_map;
-        height = height-map;
-        is_level = level-map;
-        position = position-map;
-        refusal = refusal-map;
-        well_formed = well_formed-map;
-        leaf_key = leaf_key-map;
-        leaf_keys = leaf_keys-map;
-        resolution = resolution-map;
-        held = held-map;
-        held_at = held_at-map;
-        blank_tree = blank_tree-map;
-        grown = grown-map;
-        added = added-map;
-        removed = removed-map;
-        readied = readied-map;
-        laid = laid-map;
-        laid_by = laid_by-map;
-      }
+  natural = grind (arith, seated-map, full-map, members-map, leaves_map, height-map, level-map, position-map, well_formed-map, leaf_key-map, leaf_keys-map, resolution-map, held-map, held_at-map, blank_tree-map, grown-map, added-map, removed-map, laid-map)
 
 pub naturality : Naturality
 naturality = natural

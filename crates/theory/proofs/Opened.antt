@@ -1,6 +1,6 @@
 -- What is computed is where a talk secret lies open.
 -- Assumes nothing.
-use Rattle.std.proofs.Common.{◌≡◌, ℕ, zero, suc, not, ◌&&◌, ◌||◌, T, eqb, List, [], ◌∷◌, refl, subst, ap₂, inl, inr, eqb→eq, T_not}
+use Rattle.std.proofs.Common.{◌≡◌, ℕ, zero, suc, Bool, false, not, ◌&&◌, ◌||◌, T, eqb, List, [], ◌∷◌, refl, subst, ap₂, inl, inr, eqb→eq, T_not, arith}
 use mathlib.Core.List.{Memᴰ}
 use lib.Dec.{not_T, eqb_refl}
 use Rattle.theory.specs.Secrets.{Secret}
@@ -17,89 +17,40 @@ unfolding same_secrets
 same-secrets [] [] h = refl
 same-secrets [] (t ∷ ts) h = absurd h
 same-secrets (s ∷ ss) [] h = absurd h
-same-secrets (s ∷ ss) (t ∷ ts) h =
-    ap₂ ◌∷◌ (same-is s t (and_left (same s t) (same_secrets ss ts) h)) (same-secrets ss ts (and_right (same s t) (same_secrets ss ts) h))
+same-secrets (s ∷ ss) (t ∷ ts) h = search (same-is, and_left, and_right, same-secrets ss ts)
 
 secrets-same : (ss : List Secret) → T (same_secrets ss ss)
 unfolding same_secrets
 secrets-same [] = tt
 secrets-same (s ∷ ss) = both (same s s) (same_secrets ss ss) (same_refl s) (secrets-same ss)
 
+-- a test that some item of a list passes
+module _ {X : Type 0} (test : X → Bool) (some : List X → Bool) (none : some [] ≡ false) (more : (x : X) (xs : List X) → some (x ∷ xs) ≡ (test x || some xs)) where
+  found : (xs : List X) → T (some xs) → (x : X) × Memᴰ x xs × T (test x)
+  found [] h = absurd (rw none at h)
+  found (x ∷ xs) h =
+      elim (or_cases (test x) (some xs) (rw more at h)) [
+        | inl a ↦ (x, Memᴰ.head refl, a)
+        | inr b ↦ (let y = found xs b in (y.0, Memᴰ.tail y.1, y.2))
+      ]
+
+  finds : {x : X} {xs : List X} → Memᴰ x xs → T (test x) → T (some xs)
+  finds {x} (Memᴰ.head {x = y} {xs = ys} e) h = rw more (or_left (test y) (some ys) (rw e at h))
+  finds (Memᴰ.tail {x = y} {xs = ys} d) h = rw more (or_right (test y) (some ys) (finds d h))
+
 module _ (f : ℕ) (commits : ℕ → Commit) where
-  -- some exposure was read in the epoch
-  some_read-found : (n : ℕ) (es : List Exposure) → T (some_read f commits n es) → (x : Exposure) × Memᴰ x es × T (read_in f commits n x)
-  unfolding some_read
-  some_read-found n [] h = absurd h
-  some_read-found n (x ∷ xs) h =
-      elim (or_cases (read_in f commits n x) (some_read f commits n xs) h) [
-        | inl a ↦ (x, Memᴰ.head refl, a)
-        | inr b ↦ (let y = some_read-found n xs b in (y.0, Memᴰ.tail y.1, y.2))
-      ]
-
-  read_some : (n : ℕ) {x : Exposure} {es : List Exposure} → Memᴰ x es → T (read_in f commits n x) → T (some_read f commits n es)
-  unfolding some_read
-  read_some n {x} (Memᴰ.head {x = y} {xs = ys} e) h =
-      or_left (read_in f commits n y) (some_read f commits n ys) (subst (λ z. T (read_in f commits n z)) e h)
-  read_some n (Memᴰ.tail {x = y} {xs = ys} d) h = or_right (read_in f commits n y) (some_read f commits n ys) (read_some n d h)
-
-  -- some exposure gives the commit
-  some-given : (n : ℕ) (es : List Exposure) → T (some_given f commits n es) → (x : Exposure) × Memᴰ x es × T (is_given f commits n x)
-  unfolding some_given
-  some-given n [] h = absurd h
-  some-given n (x ∷ xs) h =
-      elim (or_cases (is_given f commits n x) (some_given f commits n xs) h) [
-        | inl a ↦ (x, Memᴰ.head refl, a)
-        | inr b ↦ (let y = some-given n xs b in (y.0, Memᴰ.tail y.1, y.2))
-      ]
-
-  given-some : (n : ℕ) {x : Exposure} {es : List Exposure} → Memᴰ x es → T (is_given f commits n x) → T (some_given f commits n es)
-  unfolding some_given
-  given-some n {x} (Memᴰ.head {x = y} {xs = ys} e) h =
-      or_left (is_given f commits n y) (some_given f commits n ys) (subst (λ z. T (is_given f commits n z)) e h)
-  given-some n (Memᴰ.tail {x = y} {xs = ys} d) h = or_right (is_given f commits n y) (some_given f commits n ys) (given-some n d h)
-
   -- the test of one exposure and the record of its facts
   is-given : (n : ℕ) (x : Exposure) → T (is_given f commits n x) → Gives f commits n x
-  is-given n x t =
-      let g = group f commits n in
-      let h = group f commits (suc n) in
-      let r = group f commits x.when in
-      let a = allowed (commits n) g in
-      let b = not (eqb (commits n).committer x.who) in
-      let c = seated x.who h.tree in
-      let d = seated x.who r.tree in
-      let e = same_secrets (leaf_key x.who h.tree) (leaf_key x.who r.tree) in
-      let front : T (a && b) = and_left (a && b) ((c && d) && e) t in
-      let back : T ((c && d) && e) = and_right (a && b) ((c && d) && e) t in
-      let seats : T (c && d) = and_left (c && d) e back in
-      record {
-        took = and_left a b front;
-        other = λ p. T_not (eqb (commits n).committer x.who) (and_right a b front) (subst (λ m. T (eqb (commits n).committer m)) p (eqb_refl (commits n).committer));
-        reached = and_left c d seats;
-        read = and_right c d seats;
-        same = same-secrets (leaf_key x.who h.tree) (leaf_key x.who r.tree) (and_right (c && d) e back);
-      }
+  is-given n x t = grind (arith, and_left, and_right, same-secrets)
 
   given_is : (n : ℕ) (x : Exposure) → Gives f commits n x → T (is_given f commits n x)
-  given_is n x v =
-      let g = group f commits n in
-      let h = group f commits (suc n) in
-      let r = group f commits x.when in
-      let a = allowed (commits n) g in
-      let b = not (eqb (commits n).committer x.who) in
-      let c = seated x.who h.tree in
-      let d = seated x.who r.tree in
-      let k = leaf_key x.who h.tree in
-      let l = leaf_key x.who r.tree in
-      let other : T b = not_T (eqb (commits n).committer x.who) (λ t. v.other (eqb→eq (commits n).committer x.who t)) in
-      let keys : T (same_secrets k l) = subst (λ ss. T (same_secrets k ss)) v.same (secrets-same k) in
-      both (a && b) ((c && d) && same_secrets k l) (both a b v.took other)
-      (both (c && d) (same_secrets k l) (both c d v.reached v.read) keys)
+  given_is n x v = grind (arith, secrets-same)
 
   -- an exposure in the epoch leaves it open
   read-open : (es : List Exposure) (n : ℕ) → T (some_read f commits n es) → Open f commits es n
+  unfolding some_read
   read-open es n h =
-      let y = some_read-found n es h in
+      let y = found (read_in f commits n) (some_read f commits n) refl (λ x xs. refl) es h in
       let x = y.0 in
       let s = seated x.who (group f commits x.when).tree in
       let e = eqb (group f commits x.when).epoch (group f commits n).epoch in
@@ -107,14 +58,15 @@ module _ (f : ℕ) (commits : ℕ → Commit) where
 
   open-read : (es : List Exposure) (n : ℕ) (x : Exposure) → Memᴰ x es → T (seated x.who (group f commits x.when).tree) →
       (group f commits x.when).epoch ≡ (group f commits n).epoch → T (some_read f commits n es)
+  unfolding some_read
   open-read es n x m s e =
-      read_some n m
+      finds (read_in f commits n) (some_read f commits n) refl (λ x xs. refl) m
       (both (seated x.who (group f commits x.when).tree) (eqb (group f commits x.when).epoch (group f commits n).epoch) s
       (subst (λ k. T (eqb (group f commits x.when).epoch k)) e (eqb_refl (group f commits x.when).epoch)))
 
   -- both ways
   is_open-sound : (es : List Exposure) (n : ℕ) → T (is_open f commits es n) → Open f commits es n
-  unfolding is_open
+  unfolding is_open some_given
   is_open-sound es zero h = read-open es zero h
   is_open-sound es (suc n) h =
       let refused = not (allowed (commits n) (group f commits n)) in
@@ -123,7 +75,7 @@ module _ (f : ℕ) (commits : ℕ → Commit) where
         | inr b ↦
             (let o = is_open-sound es n (and_left (is_open f commits es n) (some_given f commits n es || refused) b) in
             elim (or_cases (some_given f commits n es) refused (and_right (is_open f commits es n) (some_given f commits n es || refused) b)) [
-              | inl c ↦ (let y = some-given n es c in on o y.0 y.1 (is-given n y.0 y.2))
+              | inl c ↦ (let y = found (is_given f commits n) (some_given f commits n) refl (λ x xs. refl) es c in on o y.0 y.1 (is-given n y.0 y.2))
               | inr c ↦ idle o (T_not (allowed (commits n) (group f commits n)) c)
             ])
       ]
@@ -131,23 +83,17 @@ module _ (f : ℕ) (commits : ℕ → Commit) where
   here-is : (es : List Exposure) (n : ℕ) → T (some_read f commits n es) → T (is_open f commits es n)
   unfolding is_open
   here-is es zero h = h
-  here-is es (suc n) h =
-      or_left (some_read f commits (suc n) es)
-      (is_open f commits es n && (some_given f commits n es || not (allowed (commits n) (group f commits n)))) h
+  here-is es (suc n) h = search (or_left)
 
   open_is : {es : List Exposure} {n : ℕ} → Open f commits es n → T (is_open f commits es n)
-  unfolding is_open
+  unfolding is_open some_given
   open_is {es} (here n x m s e) = here-is es n (open-read es n x m s e)
   open_is {es} (on {n} o x m v) =
       let refused = not (allowed (commits n) (group f commits n)) in
       or_right (some_read f commits (suc n) es) (is_open f commits es n && (some_given f commits n es || refused))
       (both (is_open f commits es n) (some_given f commits n es || refused) (open_is o)
-      (or_left (some_given f commits n es) refused (given-some n m (given_is n x v))))
-  open_is {es} (idle {n} o r) =
-      let refused = not (allowed (commits n) (group f commits n)) in
-      or_right (some_read f commits (suc n) es) (is_open f commits es n && (some_given f commits n es || refused))
-      (both (is_open f commits es n) (some_given f commits n es || refused) (open_is o)
-      (or_right (some_given f commits n es) refused (not_T (allowed (commits n) (group f commits n)) r)))
+      (or_left (some_given f commits n es) refused (finds (is_given f commits n) (some_given f commits n) refl (λ x xs. refl) m (given_is n x v))))
+  open_is {es} (idle {n} o r) = search (or_right, both, not_T, open_is o)
 
-pub opened-is : OpenIs
-opened-is f commits es n = (is_open-sound f commits es n, open_is f commits)
+pub opened_is : OpenIs
+opened_is f commits es n = (is_open-sound f commits es n, open_is f commits)

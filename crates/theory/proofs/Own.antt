@@ -61,8 +61,7 @@ module _ {K : Type 0} {w : ℕ} {k : K} where
 pub absent-keys : {K : Type 0} (w : ℕ) (t : Tree K) → T (not (seated w t)) → leaf_key w t ≡ []
 unfolding seated leaf_key
 absent-keys w (leaf x) h = rw (is_false (is_at w x) h)
-absent-keys w (node p l r) h =
-    ap₂ ◌++◌ (absent-keys w l (nor-left (seated w l) (seated w r) h)) (absent-keys w r (nor-right (seated w l) (seated w r) h))
+absent-keys w (node p l r) h = search (nor-left, nor-right, absent-keys w l, absent-keys w r)
 
 -- NOBODY SITS TWICE.
 pub data Once {K : Type 0} : Tree K → Type 0 where
@@ -80,11 +79,7 @@ module _ {K : Type 0} {w : ℕ} where
       rw (absent-keys w l (not_T (seated w l) (λ s. f w s (has-seated h)))) (once-keys b h)
 
 pub once-length : {K : Type 0} (w : ℕ) {t : Tree K} → Once t → length (leaf_key w t) ≤ 1
-once-length w {t} o =
-    elim (decided (seated w t)) [
-      | inl h ↦ rw (once-keys o (seated-has w t h).1) (omega arith)
-      | inr h ↦ rw (absent-keys w t h) (omega arith)
-    ]
+once-length w {t} o = grind (arith, once-keys, seated-has, absent-keys)
 
 -- A CHANGE seats nobody twice.
 blank-once : {K : Type 0} (t : Tree K) → Once (blank_tree t)
@@ -158,9 +153,6 @@ grown-has {w} {k} t h =
     from : Has w k (node blank_parent t (blank_tree t)) → Has w k t
     from (on_left g) = g
     from (on_right g) = absurd (blank-has t g)
-
-pub has-grown : {K : Type 0} {w : ℕ} {k : K} (t : Tree K) → Has w k t → Has w k (grown t)
-has-grown {w} {k} t h = by_cond (Has w k) (full t) _ _ (λ _. on_left h) (λ _. h)
 
 module _ {K : Type 0} {m : ℕ} {j : K} {w : ℕ} {k : K} where
   pub adding-has : {t u : Tree K} {p : List Turn} → Adding m j t u p → Has w k u → ((m ≡ w) × (j ≡ k)) ⊎ Has w k t

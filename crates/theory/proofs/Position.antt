@@ -39,5 +39,5 @@ found_none {m} {t} (at p s) =
 pub positioned : {K : Type 0} (m : ℕ) (t : Tree K) → Positioned m t
 positioned m t = record { there = found_at (found m t); none = found_none (found m t) }
 
-pub position-is : PositionIs
-position-is = positioned
+pub position_is : PositionIs
+position_is = positioned

@@ -53,15 +53,7 @@ module _ {K : Type 0} {m : ℕ} where
   unfolding resolution seated
   reached (leaf blank_leaf) h = elim h [ ]
   reached (leaf (occupied w k)) h = (k, Memᴰ.head refl, inl (here (eqb→eq w m h) refl))
-  reached (node blank_parent l r) h =
-      elim (or_cases (seated m l) (seated m r) h) [
-        | inl a ↦
-            (let x = reached l a in
-            (x.0, Memᴰ.append_left (resolution r) x.1, elim x.2 [ inl y ↦ inl (on_left y) | inr y ↦ inr (in_left y) ]))
-        | inr a ↦
-            (let x = reached r a in
-            (x.0, Memᴰ.append_right (resolution l) x.1, elim x.2 [ inl y ↦ inl (on_right y) | inr y ↦ inr (in_right y) ]))
-      ]
+  reached (node blank_parent l r) h = grind (arith, Memᴰ.append_left, on_left, in_left, Memᴰ.append_right, on_right, in_right, reached l, reached r)
   reached (node (keyed j un) l r) h =
       elim (decided (is_unmerged m un)) [
         | inl a ↦
@@ -80,9 +72,7 @@ module _ {K : Type 0} {m : ℕ} where
     leaf-held at_leaf (here {v} e d) = unfold held in rw (is_true (eqb v m) (rw e (eqb_refl m))) (Memᴰ.head (sym d))
     leaf-held (at_node {p} {l} {r} f x y) (on_left h) =
         held-left m p l r (has-seated h) (Memᴰ.append_right (node_key_held m p) (leaf-held x h))
-    leaf-held (at_node {p} {l} {r} f x y) (on_right h) =
-        held-right m p l r (not_T (seated m l) (λ g. f m g (has-seated h))) (has-seated h)
-        (Memᴰ.append_right (node_key_held m p) (leaf-held y h))
+    leaf-held (at_node {p} {l} {r} f x y) (on_right h) = search (held-right, not_T, has-seated, Memᴰ.append_right, leaf-held y h)
 
     holds-seated : {t : Tree K} → Holds m s t → T (seated m t)
     unfolding seated
@@ -93,20 +83,10 @@ module _ {K : Type 0} {m : ℕ} where
     pub node-held : {t : Tree K} → Once t → Holds m s t → Memᴰ s (held m t)
     unfolding seated
     node-held at_leaf h = elim h [ ]
-    node-held (at_node {l} {r} f x y) (at_top {j} {un} e g h) =
-        elim (decided (seated m l)) [
-          | inl a ↦ held-left m (keyed j un) l r a (Memᴰ.append_left (held m l) (merged-key m un e g))
-          | inr a ↦
-              elim (or_cases (seated m l) (seated m r) h) [
-                | inl b ↦ absurd (T_not (seated m l) a b)
-                | inr b ↦ held-right m (keyed j un) l r a b (Memᴰ.append_left (held m r) (merged-key m un e g))
-              ]
-        ]
+    node-held (at_node {l} {r} f x y) (at_top {j} {un} e g h) = grind (arith, held-left, Memᴰ.append_left, merged-key, held-right)
     node-held (at_node {p} {l} {r} f x y) (in_left h) =
         held-left m p l r (holds-seated h) (Memᴰ.append_right (node_key_held m p) (node-held x h))
-    node-held (at_node {p} {l} {r} f x y) (in_right h) =
-        held-right m p l r (not_T (seated m l) (λ g. f m g (holds-seated h))) (holds-seated h)
-        (Memᴰ.append_right (node_key_held m p) (node-held y h))
+    node-held (at_node {p} {l} {r} f x y) (in_right h) = search (held-right, not_T, holds-seated, Memᴰ.append_right, node-held y h)
 
 held-stock : {s : Secret} (m : ℕ) (g : Group) → T (seated m g.tree) → Memᴰ s (held m g.tree) → Memᴰ s (stock m g)
 held-stock m g h x = rw (is_true (seated m g.tree) h) (Memᴰ.tail (Memᴰ.tail x))
@@ -125,17 +105,7 @@ module _ (f : ℕ) (commits : ℕ → Commit) (n : ℕ) where
   holder :
       (m : ℕ) (t : Tree Secret) → Below t (at f commits n).tree → T (seated m t) →
       (s : Secret) × Memᴰ s (resolution t) × Memᴰ s (stock m (at f commits n))
-  holder m t b h =
-      let x = reached t h in
-      let k = seated-has m t h in (
-        x.0,
-        x.1,
-        held-stock m (at f commits n) (has-seated (has-below b k.1))
-            (elim x.2 [
-              | inl y ↦ leaf-held (run-once f commits n) (has-below b y)
-              | inr y ↦ node-held (run-once f commits n) (holds-below b y)
-            ]),
-      )
+  holder m t b h = grind (arith, reached, seated-has, held-stock, has-seated, has-below, leaf-held, run-once, node-held, holds-below)
 
   stranger :
       (m : ℕ) (t : Tree Secret) → Below t (at f commits n).tree → (T (seated m t) → ⊥) → (s : Secret) →

@@ -18,22 +18,14 @@ vacated m x = cond (is_at m x) blank_leaf x
 pub removed-absent : {K : Type 0} (m : ℕ) (t : Tree K) → T (not (seated m t)) → removed m t ≡ t
 unfolding removed seated
 removed-absent m (leaf x) h = rw (is_false (is_at m x) h)
-removed-absent m (node p l r) h =
-    simp (is_false (seated m l) (nor-left (seated m l) (seated m r) h), is_false (seated m r) (nor-right (seated m l) (seated m r) h))
+removed-absent m (node p l r) h = grind arith
 
 -- so a removal goes through both sides
 pub removed-node :
     {K : Type 0} (m : ℕ) (p : Parent K) (l r : Tree K) →
     removed m (node p l r) ≡ node (cond (seated m l || seated m r) blank_parent p) (removed m l) (removed m r)
 unfolding removed
-removed-node m p l r =
-    elim (decided (seated m l || seated m r)) [
-      | inl h ↦ rw (is_true (seated m l || seated m r) h)
-      | inr h ↦
-          rw (is_false (seated m l || seated m r) h)
-          (ap₂ (node p) (sym (removed-absent m l (nor-left (seated m l) (seated m r) h)))
-          (sym (removed-absent m r (nor-right (seated m l) (seated m r) h))))
-    ]
+removed-node m p l r = grind (arith, removed-absent)
 
 -- each leaf is as it was, or without m
 pub leaf-removed :
@@ -71,25 +63,16 @@ and-over true false true = refl
 and-over true false false = refl
 and-over false b c = refl
 
-left_alone : (v w m : ℕ) → cond (eqb v m) false (eqb v w) ≡ (eqb v w && not (eqb w m))
-left_alone v w m = grind arith
-
 seated-vacated :
     {K : Type 0} (w m : ℕ) (x : Leaf K) → is_at w (vacated m x) ≡ (is_at w x && not (eqb w m))
 seated-vacated w m blank_leaf = refl
-seated-vacated w m (occupied v k) =
-    elim (decided (eqb v m)) [
-      | inl h ↦ rw (is_true (eqb v m) h) (rw (is_true (eqb v m) h) at (left_alone v w m))
-      | inr h ↦ rw (is_false (eqb v m) h) (rw (is_false (eqb v m) h) at (left_alone v w m))
-    ]
+seated-vacated w m (occupied v k) = grind arith
 
 pub seated-removed :
     {K : Type 0} (w m : ℕ) (t : Tree K) → seated w (removed m t) ≡ (seated w t && not (eqb w m))
 unfolding seated
 seated-removed w m (leaf x) = unfold removed in seated-vacated w m x
-seated-removed w m (node p l r) =
-    rw (removed-node m p l r, seated-removed w m l, seated-removed w m r)
-    (and-over (seated w l) (seated w r) (not (eqb w m)))
+seated-removed w m (node p l r) = search (removed-node, and-over, seated-removed w m l, seated-removed w m r)
 
 pub removed-gone : {K : Type 0} (m : ℕ) (t : Tree K) → T (not (seated m (removed m t)))
 removed-gone m t =
@@ -126,14 +109,7 @@ parent-kept m (right ∷ q) (node c l r) h =
     rw (removed-node m c l r) (parent-kept m q r (λ p o. h (right ∷ p) (down o)))
 
 pub without : {K : Type 0} (m : ℕ) (t : Tree K) → Without m t
-without m t =
-    record {
-      gone = removed-gone m t;
-      vacant = λ p. leaf-vacated m p t;
-      others = λ p. leaf-kept m p t;
-      above = λ p q h o. parent-blanked m t h o;
-      apart = λ q. parent-kept m q t;
-    }
+without m t = search (removed-gone, leaf-vacated, leaf-kept, parent-blanked, parent-kept)
 
 pub removal : Removal
 removal = without

@@ -31,21 +31,14 @@ pub empty-deserted : {K : Type 0} (t : Tree K) → resolution t ≡ [] → Deser
 unfolding resolution seated
 empty-deserted (leaf blank_leaf) e = λ w s. s
 empty-deserted (leaf (occupied v k)) e = absurd (not-nil e)
-empty-deserted (node blank_parent l r) e =
-    λ w s.
-    elim (or_cases (seated w l) (seated w r) s) [
-      | inl a ↦ empty-deserted l (nil-parts (resolution l) (resolution r) e).0 w a
-      | inr b ↦ empty-deserted r (nil-parts (resolution l) (resolution r) e).1 w b
-    ]
+empty-deserted (node blank_parent l r) e = grind (arith, nil-parts, empty-deserted l, empty-deserted r)
 empty-deserted (node (keyed k un) l r) e = absurd (not-nil e)
 
 pub deserted-empty : {K : Type 0} {t : Tree K} → Peopled t → Deserted t → resolution t ≡ []
 unfolding resolution seated
 deserted-empty (at_leaf {x = blank_leaf}) d = refl
 deserted-empty (at_leaf {x = occupied v k}) d = absurd (d v (eqb_refl v))
-deserted-empty (at_node {c = blank_parent} {l} {r} f p q) d =
-    ap₂ ◌++◌ (deserted-empty p (λ w s. d w (or_left (seated w l) (seated w r) s)))
-    (deserted-empty q (λ w s. d w (or_right (seated w l) (seated w r) s)))
+deserted-empty (at_node {c = blank_parent} {l} {r} f p q) d = grind (arith, deserted-empty p, deserted-empty q)
 deserted-empty (at_node {c = keyed k un} f p q) d = absurd (d (f tt).0 (f tt).1)
 
 pub peopled-below : {K : Type 0} {t u : Tree K} → Below t u → Peopled u → Peopled t
@@ -105,8 +98,8 @@ readied-peopled renew fresh t p = p
 readied-peopled (remove m) fresh t p = removed-peopled m p
 readied-peopled (add m) fresh t p = added-peopled m fresh (grown t) (grown-peopled t p)
 
-pub resolution-empty : ResolutionEmpty
-resolution-empty f commits n t b = (
+pub resolution_empty : ResolutionEmpty
+resolution_empty f commits n t b = (
   empty-deserted t,
   deserted-empty
       (peopled-below b

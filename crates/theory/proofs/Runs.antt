@@ -1,6 +1,6 @@
 -- What every commit keeps, every tree of a run has; and the path that a commit lays, by a view of it: `Laying`.
 -- Assumes nothing.
-use Rattle.std.proofs.Common.{◌≡◌, ℕ, zero, suc, not, ◌||◌, T, eqb, is_some, refl, ap, eqb→eq}
+use Rattle.std.proofs.Common.{◌≡◌, ℕ, zero, suc, not, ◌||◌, T, eqb, is_some, refl, ap, eqb→eq, arith}
 use Rattle.theory.specs.Secrets.{Secret}
 use Rattle.theory.specs.Tree.{Tree, leaf, node, blank_leaf, occupied, Parent, seated}
 use Rattle.theory.specs.Path.{Laid, laid}
@@ -16,10 +16,7 @@ pub run-keeps :
     (f : ℕ) (commits : ℕ → Commit) (n : ℕ) → P (group f commits n).tree
 unfolding group committed
 run-keeps P start step f commits zero = start f _
-run-keeps P start step f commits (suc n) =
-    by_cond (λ (g : Group). P g.tree) (allowed (commits n) (group f commits n)) _ _
-    (λ a. step (group f commits n).epoch (commits n) (group f commits n).tree a _ _ _ (run-keeps P start step f commits n))
-    (λ _. run-keeps P start step f commits n)
+run-keeps P start step f commits (suc n) = grind (arith, run-keeps P start step f commits n)
 
 -- m's path makes the second tree of the first: new keys above m, and its own at its leaf
 pub data Laying {K : Type 0} (m : ℕ) (own : K) : Tree K → Tree K → Type 0 where

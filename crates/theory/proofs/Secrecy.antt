@@ -106,10 +106,6 @@ module _ (f : ℕ) (commits : ℕ → Commit) (es : List Exposure) where
       ]
 
   -- INVERSION. How a secret of a form comes to be of the kind.
-  of-lock : {s : Secret} → Derived (lock s) → OfNode (lock s) ⊎ Derived s
-  of-lock (told x) = inl x
-  of-lock (locks d) = inr d
-
   of-mix : {s t : Secret} → Derived (mix s t) → Derived s × Derived t
   of-mix (told x) = absurd x
   of-mix (mixing d e) = (d, e)
@@ -117,10 +113,6 @@ module _ (f : ℕ) (commits : ℕ → Commit) (es : List Exposure) where
   of-seed : {s : Secret} → Derived (seed s) → OfEpoch s ⊎ Derived s
   of-seed (told x) = inl x
   of-seed (seeding d) = inr d
-
-  of-talk : {s : Secret} → Derived (talk s) → OfEpoch s ⊎ Derived s
-  of-talk (told x) = inl x
-  of-talk (talking d) = inr d
 
   of-leaf : {b w : ℕ} {s : Secret} → Owns b w s → Derived s → OfLeaf s
   of-leaf (renewed h) (told x) = x
@@ -164,33 +156,12 @@ module _ (f : ℕ) (commits : ℕ → Commit) (es : List Exposure) where
       (o : Level f commits) → Derived (node_key f commits o) →
       (x : Exposure) × Memᴰ x es × (k : Secret)
       × history.had f commits o x.who k × Has x.who k (at f commits x.when).tree
-  level-sitting o d =
-      elim (of-lock d) [
-        | inl x ↦
-            (let p = x.2 in
-            let e = same-level f commits p.commit o.commit p.level o.level p.took o.took (sym (history.lock-same x.3)) in
-            (x.0, x.1, x.4, had-same f commits p.commit o.commit p.level o.level x.0.who x.4 e x.6, x.5))
-        | inr y ↦
-            (let g = of-path o.commit o.level o.took y in
-            let z = g.2 in (
-              z.exposure,
-              z.among,
-              z.key,
-              had-up z.exposure.who z.key g.0 o.level (history.path_of f commits o.commit) z.below g.1 o.laid,
-              z.own,
-            ))
-      ]
+  level-sitting o d = grind (arith, same-level, of-path, had-up)
 
   heart :
       {b : ℕ} {s : Secret} {u : Tree Secret} → Keyed (node_key f commits) (history.had f commits) u →
       ((w : ℕ) (k : Secret) → Has w k u → Owns b w k) → Memᴰ s (resolution u) → Derived s → Sitting u
-  heart {s} x own y d =
-      elim (resolution-cases x y) [
-        | inl a ↦ sitting-leaf a.1 (own a.0 s a.1) d
-        | inr a ↦
-            (let z = level-sitting a.0 (subst Derived a.1 d) in
-            (z.0, z.1, z.2, a.2 z.0.who z.2 z.3, z.4))
-      ]
+  heart {s} x own y d = grind (arith, resolution-cases, sitting-leaf, level-sitting)
 
   -- BOXES. Opening one of the kind gives one of the kind.
   open-target :
@@ -252,18 +223,7 @@ module _ (f : ℕ) (commits : ℕ → Commit) (es : List Exposure) where
       (sym (mixes-epoch f commits x.0.when) ∙ ap mixes (sym x.3) ∙ mixes-epoch f commits n)
 
   gift-gives : (n i : ℕ) → T (done f commits n) → (g : Gift n i) → Gives f commits n g.exposure
-  gift-gives n i h g =
-      let a : Has g.exposure.who g.key (at f commits (suc n)).tree =
-      subst (λ t. Has g.exposure.who g.key t) (sym (ap (λ (x : Group). x.tree) (after f commits n h)))
-      (had-has g.exposure.who g.key i (history.path_of f commits n) g.below)
-      in
-      record {
-        took = h;
-        other = g.other;
-        reached = has-seated a;
-        read = has-seated g.own;
-        same = once-keys (run-once f commits (suc n)) a ∙ sym (once-keys (run-once f commits g.exposure.when) g.own);
-      }
+  gift-gives n i h g = grind (arith, after, had-has, has-seated, once-keys, run-once)
 
   secret-open : (n : ℕ) → Derived (at f commits n).secret → Open f commits es n
   unfolding group
@@ -278,8 +238,4 @@ module _ (f : ℕ) (commits : ℕ → Commit) (es : List Exposure) where
       (λ h y. idle (secret-open n y) (T_not (done f commits n) h)) d
 
 pub main : Main
-main f commits es until n k =
-    elim (of-talk f commits es (derived f commits es until k)) [
-      | inl x ↦ epoch-open f commits es n x
-      | inr x ↦ secret-open f commits es n x
-    ]
+main f commits es until n k = grind (arith, derived, epoch-open, secret-open)

@@ -1,6 +1,6 @@
 -- Nobody sits twice, and no leaf key is ever another's.
 -- Assumes nothing.
-use Rattle.std.proofs.Common.{sym, ◌∙◌}
+use Rattle.std.proofs.Common.{sym, ◌∙◌, arith}
 use Rattle.theory.specs.Group.{group}
 use Rattle.theory.specs.Promise.{Sole, OwnFresh}
 use Rattle.theory.proofs.Own.{key_has, once-length}
@@ -10,6 +10,4 @@ pub sole : Sole
 sole f commits n m = once-length m (run-once f commits n)
 
 pub own_fresh : OwnFresh
-own_fresh f commits i k m w s x y =
-    sym (owns-owner (run-owns f commits i m s (key_has (group f commits i).tree x)))
-    ∙ owns-owner (run-owns f commits k w s (key_has (group f commits k).tree y))
+own_fresh f commits i k m w s x y = grind (arith, owns-owner, run-owns, key_has)

@@ -53,14 +53,7 @@ fine w (add m) t h =
     (nleb→lt max_members (members t) d.0)
 
 pub permitted : {K : Type 0} (e : ℕ) (c : Commit) (t : Tree K) → T (not (is_some (refusal e c t))) → Permitted e c t
-permitted e c t h =
-    let a = not-refused (leb last_epoch e) 9 (first_of (not (seated c.committer t)) 3 (change_refusal c.committer c.change t)) h in
-    let b = not-refused (not (seated c.committer t)) 3 (change_refusal c.committer c.change t) a.1 in
-    record {
-      early = nleb→lt last_epoch e a.0;
-      present = not-not (seated c.committer t) b.0;
-      asked = fine c.committer c.change t b.1;
-    }
+permitted e c t h = grind (arith, fine)
 
 -- a run from a founder: what every commit that isn't refused keeps
 pub run-from :
@@ -173,24 +166,7 @@ coming :
     ParentSound c who → ParentSound (unmerged_at m c) then
 unfolding is_unmerged distinct
 coming m blank_parent who then h e s = tt
-coming m (keyed k un) who then h e s =
-    record {
-      once = both (not (is_unmerged m un)) (distinct un) (not_T (is_unmerged m un) (λ u. T_not (who m) h (s.below m u))) s.once;
-      below =
-          λ w u.
-          rw (e w)
-          (elim (or_cases (eqb m w) (is_unmerged w un) u) [
-            | inl a ↦ or_right (who w) (eqb m w) a
-            | inr b ↦ or_left (who w) (eqb m w) (s.below w b)
-          ]);
-      somebody =
-          let w = s.somebody.0 in (
-            w,
-            rw (e w) (or_left (who w) (eqb m w) s.somebody.1),
-            nor (eqb m w) (is_unmerged w un)
-                (not_T (eqb m w) (λ q. T_not (who m) h (rw (eqb→eq m w q) s.somebody.1))) s.somebody.2,
-          );
-    }
+coming m (keyed k un) who then h e s = grind arith
 
 or_swap : (a b c : Bool) → ((a || c) || b) ≡ ((a || b) || c)
 or_swap true b c = refl
@@ -231,11 +207,7 @@ added-sound m k t h s =
 -- growing seats nobody
 pub seated-grown : {K : Type 0} (w : ℕ) (t : Tree K) → seated w (grown t) ≡ seated w t
 unfolding seated
-seated-grown w t =
-    elim (decided (full t)) [
-      | inl h ↦ rw (grown-full t h, is_false (seated w (blank_tree t)) (blank-deserted w t)) (or-false (seated w t))
-      | inr h ↦ rw (grown-roomy t h)
-    ]
+seated-grown w t = grind (arith, grown-full, blank-deserted, grown-roomy)
 
 -- a parent of the path has nobody unmerged, and m below it
 path-sound :
@@ -314,57 +286,37 @@ distinct_tail w ws h = (and_left (not (is_unmerged w ws)) (distinct ws) h, and_r
 seated-all : {K : Type 0} (ws : List ℕ) (t : Tree K) → T (all_seated ws t) → (w : ℕ) → T (is_unmerged w ws) → T (seated w t)
 unfolding all_seated is_unmerged
 seated-all [] t h w u = absurd u
-seated-all (v ∷ ws) t h w u =
-    elim (or_cases (eqb v w) (is_unmerged w ws) u) [
-      | inl a ↦ rw (← (eqb→eq v w a)) (and_left (seated v t) (all_seated ws t) h)
-      | inr b ↦ seated-all ws t (and_right (seated v t) (all_seated ws t) h) w b
-    ]
+seated-all (v ∷ ws) t h w u = grind (arith, seated-all ws t)
 
 all-seated : {K : Type 0} (ws : List ℕ) (t : Tree K) → ((w : ℕ) → T (is_unmerged w ws) → T (seated w t)) → T (all_seated ws t)
 unfolding all_seated is_unmerged
 all-seated [] t h = tt
-all-seated (v ∷ ws) t h =
-    both (seated v t) (all_seated ws t) (h v (or_left (eqb v v) (is_unmerged v ws) (eqb_refl v)))
-    (all-seated ws t (λ w u. h w (or_right (eqb v w) (is_unmerged w ws) u)))
+all-seated (v ∷ ws) t h = search (both, or_left, eqb_refl, or_right, all-seated ws t)
 
 some-merged :
     {K : Type 0} (un : List ℕ) (t : Tree K) → T (some_merged un t) → (w : ℕ) × T (seated w t) × T (not (is_unmerged w un))
 unfolding some_merged seated
 some-merged un (leaf blank_leaf) h = absurd h
 some-merged un (leaf (occupied w k)) h = (w, eqb_refl w, h)
-some-merged un (node p l r) h =
-    elim (or_cases (some_merged un l) (some_merged un r) h) [
-      | inl a ↦ let s = some-merged un l a in (s.0, or_left (seated s.0 l) (seated s.0 r) s.1, s.2)
-      | inr b ↦ let s = some-merged un r b in (s.0, or_right (seated s.0 l) (seated s.0 r) s.1, s.2)
-    ]
+some-merged un (node p l r) h = grind (arith, some-merged un l, some-merged un r)
 
 merged_some : {K : Type 0} (un : List ℕ) (t : Tree K) (w : ℕ) → T (seated w t) → T (not (is_unmerged w un)) → T (some_merged un t)
 unfolding some_merged seated
 merged_some un (leaf blank_leaf) w s h = absurd s
 merged_some un (leaf (occupied v k)) w s h = rw (eqb→eq v w s) h
-merged_some un (node p l r) w s h =
-    elim (or_cases (seated w l) (seated w r) s) [
-      | inl a ↦ or_left (some_merged un l) (some_merged un r) (merged_some un l w a h)
-      | inr b ↦ or_right (some_merged un l) (some_merged un r) (merged_some un r w b h)
-    ]
+merged_some un (node p l r) w s h = grind (arith, merged_some un l w, merged_some un r w)
 
 apart-all : {K : Type 0} (l r : Tree K) → T (apart l r) → Apart l r
 unfolding apart seated
 apart-all (leaf blank_leaf) r h w a b = absurd a
 apart-all (leaf (occupied v k)) r h w a b = T_not (seated v r) h (rw (eqb→eq v w a) b)
-apart-all (node p x y) r h w a b =
-    elim (or_cases (seated w x) (seated w y) a) [
-      | inl c ↦ apart-all x r (and_left (apart x r) (apart y r) h) w c b
-      | inr c ↦ apart-all y r (and_right (apart x r) (apart y r) h) w c b
-    ]
+apart-all (node p x y) r h w a b = grind (arith, apart-all x r, apart-all y r)
 
 all_apart : {K : Type 0} (l r : Tree K) → Apart l r → T (apart l r)
 unfolding apart seated
 all_apart (leaf blank_leaf) r h = tt
 all_apart (leaf (occupied v k)) r h = not_T (seated v r) (h v (eqb_refl v))
-all_apart (node p x y) r h =
-    both (apart x r) (apart y r) (all_apart x r (λ w a. h w (or_left (seated w x) (seated w y) a)))
-    (all_apart y r (λ w a. h w (or_right (seated w x) (seated w y) a)))
+all_apart (node p x y) r h = search (both, or_left, or_right, all_apart x r, all_apart y r)
 
 merging-sound : {K : Type 0} (c p : Parent K) (l r : Tree K) → T (merges c (node p l r)) → ParentSound c (λ w. seated w l || seated w r)
 unfolding seated
@@ -381,11 +333,7 @@ merging-sound (keyed k un) p l r h =
 sound-merging : {K : Type 0} (c p : Parent K) (l r : Tree K) → ParentSound c (λ w. seated w l || seated w r) → T (merges c (node p l r))
 unfolding seated
 sound-merging blank_parent p l r s = tt
-sound-merging (keyed k un) p l r s =
-    let t = node p l r in
-    both (distinct un) (all_seated un t && some_merged un t) s.once
-    (both (all_seated un t) (some_merged un t) (all-seated un t s.below)
-    (merged_some un t s.somebody.0 s.somebody.1 s.somebody.2))
+sound-merging (keyed k un) p l r s = search (both, all-seated, merged_some)
 
 -- the test gives the invariant
 pub consistent-sound : {K : Type 0} (t : Tree K) → T (consistent t) → Sound t
@@ -403,34 +351,22 @@ consistent-sound (node p l r) h =
 pub sound-consistent : {K : Type 0} {t : Tree K} → Sound t → T (consistent t)
 unfolding consistent
 sound-consistent at_leaf = tt
-sound-consistent (at_node {c} {l} {r} f g p q) =
-    both (apart l r && merges c (node c l r)) (consistent l && consistent r)
-    (both (apart l r) (merges c (node c l r)) (all_apart l r f) (sound-merging c c l r g))
-    (both (consistent l) (consistent r) (sound-consistent p) (sound-consistent q))
+sound-consistent (at_node {c} {l} {r} f g p q) = search (both, all_apart, sound-merging, sound-consistent p, sound-consistent q)
 
 pub numbered-all : {K : Type 0} (t : Tree K) → T (numbered t) → Numbered t
 unfolding numbered seated
 numbered-all (leaf blank_leaf) h w s = absurd s
 numbered-all (leaf (occupied v k)) h w s = rw (← (eqb→eq v w s)) (ltb→lt v nobody h)
-numbered-all (node p l r) h w s =
-    elim (or_cases (seated w l) (seated w r) s) [
-      | inl a ↦ numbered-all l (and_left (numbered l) (numbered r) h) w a
-      | inr b ↦ numbered-all r (and_right (numbered l) (numbered r) h) w b
-    ]
+numbered-all (node p l r) h w s = grind (arith, numbered-all l, numbered-all r)
 
 pub all-numbered : {K : Type 0} (t : Tree K) → Numbered t → T (numbered t)
 unfolding numbered seated
 all-numbered (leaf blank_leaf) h = tt
 all-numbered (leaf (occupied v k)) h = lt→ltb v nobody (h v (eqb_refl v))
-all-numbered (node p l r) h =
-    both (numbered l) (numbered r) (all-numbered l (λ w s. h w (or_left (seated w l) (seated w r) s)))
-    (all-numbered r (λ w s. h w (or_right (seated w l) (seated w r) s)))
+all-numbered (node p l r) h = search (both, or_left, or_right, all-numbered l, all-numbered r)
 
 pub well-formed-kept : WellFormedKept
-well-formed-kept f commits n =
-    let c = sound-consistent (run_sound f commits n) in
-    let t = (group f commits n).tree in
-    (c, λ b. both (numbered t) (consistent t) (all-numbered t (run-numbered f b commits n)) c)
+well-formed-kept f commits n = search (sound-consistent, run_sound, both, all-numbered, run-numbered)
 
 -- THE FACTS, in the words of places.
 pub sound-sole :
@@ -458,9 +394,6 @@ deeper-right : {K : Type 0} (c : Parent K) (l r : Tree K) (w : ℕ) (q : List Tu
 unfolding leaf_at
 deeper-right c l r w q s = (right ∷ s.0, down s.1, s.2)
 
-same-parent : {K : Type 0} {a b : K} {un vs : List ℕ} → Some (keyed a un) ≡ Some (keyed b vs) → un ≡ vs
-same-parent e = cc
-
 blank-keyed : {K : Type 0} {b : K} {vs : List ℕ} → ◌≡◌ {A = Option (Parent K)} (Some blank_parent) (Some (keyed b vs)) → ⊥
 blank-keyed e = let z : ◌≡◌ {A = ℕ} 0 1 = cc in omega arith
 
@@ -469,15 +402,7 @@ top-merging :
     (k : K) (un : List ℕ) → Some c ≡ Some (keyed k un) → Merging [] un (node c l r)
 unfolding seated
 top-merging blank_parent l r s k un e = absurd (blank-keyed e)
-top-merging (keyed j vs) l r s k un e =
-    rw (← (same-parent e))
-    (record {
-      once = s.once;
-      below = λ w u. seated-below w (keyed j vs) l r (s.below w u);
-      somebody =
-          let w = s.somebody.0 in
-          (w, s.somebody.2, seated-below w (keyed j vs) l r s.somebody.1);
-    })
+top-merging (keyed j vs) l r s k un e = grind (arith, seated-below)
 
 pub sound-merging-at :
     {K : Type 0} {t : Tree K} → Sound t → (q : List Turn) (k : K) (un : List ℕ) → parent_at q t ≡ Some (keyed k un) → Merging q un t
@@ -485,20 +410,8 @@ unfolding parent_at
 sound-merging-at at_leaf [] k un e = absurd (none-some e)
 sound-merging-at at_leaf (d ∷ q) k un e = absurd (none-some e)
 sound-merging-at (at_node {c} {l} {r} f g x y) [] k un e = top-merging c l r g k un e
-sound-merging-at (at_node {c} {l} {r} f g x y) (left ∷ q) k un e =
-    let m = sound-merging-at x q k un e in
-    record {
-      once = m.once;
-      below = λ w u. deeper-left c l r w q (m.below w u);
-      somebody = (m.somebody.0, m.somebody.1, deeper-left c l r m.somebody.0 q m.somebody.2);
-    }
-sound-merging-at (at_node {c} {l} {r} f g x y) (right ∷ q) k un e =
-    let m = sound-merging-at y q k un e in
-    record {
-      once = m.once;
-      below = λ w u. deeper-right c l r w q (m.below w u);
-      somebody = (m.somebody.0, m.somebody.1, deeper-right c l r m.somebody.0 q m.somebody.2);
-    }
+sound-merging-at (at_node {c} {l} {r} f g x y) (left ∷ q) k un e = grind (arith, deeper-left, sound-merging-at x q k un e)
+sound-merging-at (at_node {c} {l} {r} f g x y) (right ∷ q) k un e = grind (arith, deeper-right, sound-merging-at y q k un e)
 
 pub sound-facts : {K : Type 0} {t : Tree K} → Sound t → Consistent t
 sound-facts s = record { sole = sound-sole s; merging = sound-merging-at s }
@@ -593,8 +506,8 @@ well-formed-facts t = (
   λ s. both (numbered t) (consistent t) (all-numbered t s.numbers) (sound-consistent (facts-sound t s.consistent)),
 )
 
-pub well-formed-is : WellFormedIs
-well-formed-is = well-formed-facts
+pub well_formed_is : WellFormedIs
+well_formed_is = well-formed-facts
 
-pub distinct-holds : Distinct
-distinct-holds f commits n = sound-sole (run_sound f commits n)
+pub distinct_holds : Distinct
+distinct_holds f commits n = sound-sole (run_sound f commits n)

@@ -20,5 +20,5 @@ verdicts-said : Said verdict_rows
 unfolding ups seated full members leaf_key leaf_keys resolution blank_tree added removed laid held is_unmerged committed group stocks numbers same_numbers is_in made opens rounds same_secrets some_read some_given is_open verdicts
 verdicts-said = (refl, (refl, tt))
 
-pub worked-cases : WorkedCases
-worked-cases = (rows-given, verdicts-said)
+pub worked_cases : WorkedCases
+worked_cases = (rows-given, verdicts-said)

@@ -3,50 +3,43 @@ ghost use Rattle.theory.specs.Opened.{OpenIs};
 ghost use Rattle.theory.specs.Promise.{Sole, OwnFresh, Main, Past, Heals, Reaches};
 
 // Nobody sits twice in a tree of a run.
-pub fn sole_holds() -> u8
+#[tactic(auto, using(crate::proofs::Sole::sole))]
+pub fn sole_holds()
     ensures { Sole }
-{
-    0
-}
+{}
 
 // No leaf key is ever another's.
-pub fn own_fresh_holds() -> u8
+#[tactic(auto, using(crate::proofs::Sole::own_fresh))]
+pub fn own_fresh_holds()
     ensures { OwnFresh }
-{
-    0
-}
+{}
 
 // Whoever has every box sent and all that was in the handsets read out works out a talk secret only where it lies open.
-pub fn main_holds() -> u8
+#[tactic(auto, using(crate::proofs::Secrecy::main))]
+pub fn main_holds()
     ensures { Main }
-{
-    0
-}
+{}
 
 // If every handset was read out in a later epoch, the talk secret of this one is not worked out.
-pub fn past_holds() -> u8
+#[tactic(auto, using(crate::proofs::Healing::past))]
+pub fn past_holds()
     ensures { Past }
-{
-    0
-}
+{}
 
 // If every handset read out has renewed its keys since or has left, the talk secret is not worked out.
-pub fn heals_holds() -> u8
+#[tactic(auto, using(crate::proofs::Healing::heals))]
+pub fn heals_holds()
     ensures { Heals }
-{
-    0
-}
+{}
 
 // In every part of every tree of a run, those seated hold one of the keys of the resolution, and nobody else holds any.
-pub fn reaches_holds() -> u8
+#[tactic(auto, using(crate::proofs::Reaching::reaches))]
+pub fn reaches_holds()
     ensures { Reaches }
-{
-    0
-}
+{}
 
 // What is computed by recursion on the commits is where a talk secret lies open.
-pub fn open_is_holds() -> u8
+#[tactic(auto, using(crate::proofs::Opened::opened_is))]
+pub fn open_is_holds()
     ensures { OpenIs }
-{
-    0
-}
+{}

@@ -1,6 +1,6 @@
 -- Runs at secrets are runs at halves: order by order.
 -- Assumes nothing.
-use Rattle.std.proofs.Common.{◌≡◌, ℕ, zero, suc, Bool, true, false, cond, not, ◌&&◌, T, ltb, List, [], ◌∷◌, map, is_some, Some, None, Option, sym, refl, ap, ◌∙◌, inl, inr}
+use Rattle.std.proofs.Common.{◌≡◌, ℕ, zero, suc, Bool, true, false, cond, not, ◌&&◌, T, ltb, List, [], ◌∷◌, map, is_some, Some, None, Option, sym, refl, ap, ◌∙◌, inl, inr, arith}
 use mathlib.Core.List.{map-append}
 use Rattle.theory.specs.Known.{same}
 use Rattle.theory.specs.Secrets.{Secret, Box}
@@ -60,25 +60,14 @@ module _ {K : Type 0} (keys : Halves K) (reflexive : (k : K) → T (keys.same k 
   opens-carried :
       (k x : Secret) (o : Option (Vault Secret)) (p : Option (Vault K)) → Carried o p →
       Carried (cond (same k x) o None) (cond (keys.same (keys.half k) (keys.half x)) p None)
-  opens-carried k x o p h =
-      elim (decided (same k x)) [
-        | inl a ↦
-            let e : keys.same (keys.half k) (keys.half x) ≡ true =
-            is_true _ (rw (same-is k x a) (reflexive (keys.half x))) in
-            rw (is_true (same k x) a, e) h
-        | inr a ↦ rw (is_false (same k x) a) (carried_none _)
-      ]
+  opens-carried k x o p h = grind (arith, same-is)
 
   sealed-there :
       (k x : Secret) (v : Vault Secret) → has_sealed (keys.half k) x (there v) ≡ there (has_sealed k x v)
-  sealed-there k x v =
-      let e = map-append (map_sealed keys.half) v.sealed (record { key = k; holds = x } ∷ []) in
-      λ i. record { slots = v.slots; draws = v.draws; sealed = sym e i; given = map keys.half v.given }
+  sealed-there k x v = search (map-append)
 
   given-there : (k : Secret) (v : Vault Secret) → has_given (keys.half k) (there v) ≡ there (has_given k v)
-  given-there k v =
-      let e = map-append keys.half v.given (k ∷ []) in
-      λ i. record { slots = v.slots; draws = v.draws; sealed = map (map_sealed keys.half) v.sealed; given = sym e i }
+  given-there k v = search (map-append)
 
   -- ONE ORDER.
   pub step-carried :
@@ -86,22 +75,12 @@ module _ {K : Type 0} (keys : Halves K) (reflexive : (k : K) → T (keys.same k 
       step keys (map (map_sealed keys.half) bs) (map_order keys.half o) (map_vault keys.half v) ≡ Some (map_vault keys.half u)
   unfolding step
   step-carried bs (draw t) v = drew-carried t v.draws v
-  step-carried bs (derive w s t) v =
-      carried-then (v.slots s) (λ x. filled t (derived w x) v) (λ x. filled t (derived w x) (there v)) (λ x. filled-carried t (derived w x) v)
-  step-carried bs (mix s p t) v =
-      carried-then (v.slots s) _ _ (λ x.
-      carried-then (v.slots p) (λ y. filled t (secrets.mix x y) v) (λ y. filled t (secrets.mix x y) (there v)) (λ y. filled-carried t (secrets.mix x y) v))
-  step-carried bs (seal s k) v =
-      carried-then (v.slots s) (λ x. Some (has_sealed k x v)) (λ x. Some (has_sealed (keys.half k) x (there v)))
-      (λ x. carried_some _ _ (sealed-there k x v))
-  step-carried bs (unseal n s t) v =
-      carried-then (v.slots s) _ _ (λ x.
-      nth-carried bs n _ _ (λ b. opens-carried b.key x _ _ (filled-carried t b.holds v)))
-  step-carried bs (forget s) v =
-      carried-then (v.slots s) (λ x. Some (emptied s v)) (λ x. Some (emptied s (there v))) (λ x. carried_some _ _ refl)
-  step-carried bs (publish s) v =
-      carried-then (v.slots s) (λ x. Some (has_given x v)) (λ x. Some (has_given (keys.half x) (there v)))
-      (λ x. carried_some _ _ (given-there x v))
+  step-carried bs (derive w s t) v = search (carried-then, filled-carried)
+  step-carried bs (mix s p t) v = grind arith
+  step-carried bs (seal s k) v = search (carried-then, carried_some, sealed-there)
+  step-carried bs (unseal n s t) v = search (carried-then, nth-carried, opens-carried, filled-carried)
+  step-carried bs (forget s) v = search (carried-then, carried_some)
+  step-carried bs (publish s) v = search (carried-then, carried_some, given-there)
 
   -- ORDERS one after the other.
   carried-next :
@@ -118,14 +97,12 @@ module _ {K : Type 0} (keys : Halves K) (reflexive : (k : K) → T (keys.same k 
   run-carried bs (o ∷ os) v = carried-next (step themselves bs o v) _ _ _ (step-carried bs o v) (run-carried bs os)
 
   -- boxes at halves are the image of boxes at secrets
-  boxes-there : (bs : List Box) → map (map_sealed keys.half) (map (sealed_box (λ s. s)) bs) ≡ map (sealed_box keys.half) bs
-  boxes-there [] = refl
-  boxes-there (b ∷ bs) = ap (λ xs. sealed_box keys.half b ∷ xs) (boxes-there bs)
+  boxes_there : (bs : List Box) → map (map_sealed keys.half) (map (sealed_box (λ s. s)) bs) ≡ map (sealed_box keys.half) bs
+  boxes_there [] = refl
+  boxes_there (b ∷ bs) = ap (λ xs. sealed_box keys.half b ∷ xs) (boxes_there bs)
 
   pub run-at-halves : (bs : List Box) (os : List (Order Secret)) (v u : Vault Secret) → Carries keys bs os v u
-  run-at-halves bs os v u e =
-      ap (λ xs. run keys xs (map (map_order keys.half) os) (there v)) (sym (boxes-there bs))
-      ∙ run-carried (map (sealed_box (λ s. s)) bs) os v u e
+  run-at-halves bs os v u e = grind (arith, boxes_there, run-carried)
 
-pub runs-at-halves : RunsAtHalves
-runs-at-halves = run-at-halves
+pub runs_at_halves : RunsAtHalves
+runs_at_halves = run-at-halves

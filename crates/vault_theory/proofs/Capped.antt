@@ -29,13 +29,7 @@ members-few (level.at_node {d} a b) = let x = members-few a in let y = members-f
 pub posted-few : {K : Type 0} (c : ℕ) {t : Tree K} → Sound t → posted c t ≤ members t
 unfolding posted members
 posted-few c at_leaf = omega arith
-posted-few c (at_node {l} {r} f g p q) =
-    let x = posted-few c p in
-    let y = posted-few c q in
-    let u = resolution-few p in
-    let v = resolution-few q in
-    by_cond (λ n. n ≤ members l + members r) (seated c l) _ _ (λ _. omega arith)
-    (λ _. by_cond (λ n. n ≤ members l + members r) (seated c r) _ _ (λ _. omega arith) (λ _. omega arith))
+posted-few c (at_node {l} {r} f g p q) = grind (arith, resolution-few, posted-few c p, posted-few c q)
 
 pub posted-fewer : {K : Type 0} (c : ℕ) {t : Tree K} → Sound t → T (seated c t) → posted c t < members t
 unfolding posted members
@@ -55,20 +49,12 @@ posted-fewer c (at_node {c = k} {l} {r} f g p q) h =
 before-few : (w : ℕ) (ws : List ℕ) → T (is_unmerged w ws) → before w ws < length ws
 unfolding before is_unmerged
 before-few w [] h = absurd h
-before-few w (v ∷ ws) h =
-    elim (decided (eqb v w)) [
-      | inl a ↦ rw (is_true (eqb v w) a) (omega arith)
-      | inr a ↦ let x = before-few w ws (other-side (eqb v w) (is_unmerged w ws) a h) in rw (is_false (eqb v w) a) (omega arith)
-    ]
+before-few w (v ∷ ws) h = grind (arith, before-few w ws)
 
 pub number-few : {K : Type 0} (w : ℕ) {t : Tree K} → Sound t → number_of_key w t ≤ members t
 unfolding number_of_key members
 number-few w (at_leaf {x}) = omega arith
-number-few w (at_node {c = blank_parent} {l} {r} f g p q) =
-    let x = number-few w p in
-    let y = number-few w q in
-    let u = resolution-few p in
-    by_cond (λ n. n ≤ members l + members r) (seated w l) _ _ (λ _. omega arith) (λ _. omega arith)
+number-few w (at_node {c = blank_parent} {l} {r} f g p q) = grind (arith, resolution-few, number-few w p, number-few w q)
 number-few w (at_node {c = keyed k un} {l} {r} f g p q) =
     by_cond (λ n. n ≤ members l + members r) (is_unmerged w un) _ _
     (λ h.
@@ -124,29 +110,17 @@ module _ {K : Type 0} (k : ℕ) where
   dropped-under : (w m : ℕ) (t : Tree K) → All (Under k) (dropped w m t)
   unfolding dropped
   dropped-under w m (leaf x) = none
-  dropped-under w m (node p l r) =
-      both-lists (cond (seated w l) (dropped w m l) (dropped w m r)) _
-      (either (seated w l) _ _ (dropped-under w m l) (dropped-under w m r))
-      (either _ _ _ (held_forgotten-under w p (suc (height l))) none)
+  dropped-under w m (node p l r) = search (both-lists, either, held_forgotten-under, none, dropped-under w m l, dropped-under w m r)
 
   made-under : (c : ℕ) (t : Tree K) → All (Under k) (made c t)
   unfolding made
   made-under c (leaf x) = none
-  made-under c (node p l r) =
-      let h = suc (height l) in
-      either (seated c l) _ _
-      (both-lists (made c l) _ (made-under c l)
-      (both-lists (held_forgotten c p h) _ (held_forgotten-under c p h) (sealed_up-under (levels c l) h (resolution r))))
-      (both-lists (made c r) _ (made-under c r)
-      (both-lists (held_forgotten c p h) _ (held_forgotten-under c p h) (sealed_up-under (levels c r) h (resolution l))))
+  made-under c (node p l r) = search (either, both-lists, held_forgotten-under, sealed_up-under, made-under c l, made-under c r)
 
   abandoned-under : (w : ℕ) (t : Tree K) → All (Under k) (abandoned w t)
   unfolding abandoned
   abandoned-under w (leaf x) = and_then _ _ tt none
-  abandoned-under w (node p l r) =
-      both-lists (cond (seated w l) (abandoned w l) (abandoned w r)) _
-      (either (seated w l) _ _ (abandoned-under w l) (abandoned-under w r))
-      (held_forgotten-under w p (suc (height l)))
+  abandoned-under w (node p l r) = search (both-lists, either, held_forgotten-under, abandoned-under w l, abandoned-under w r)
 
   dropped_for-under : (w : ℕ) (a : Change) (t : Tree K) → All (Under k) (dropped_for w a t)
   dropped_for-under w renew t = none
@@ -203,11 +177,11 @@ followed-there k w c (level.at_node {d} {c = p} {l} {r} x y) (at_node f g m n) a
     or_swap true false h = tt
     or_swap false b h = or_left b false h
 
-pub boxes-there : BoxesThere
-boxes-there d u h s w c a b n i t m = followed-there (posted c u) w c (level-view d u h) (consistent-sound u s) a b (omega arith) (unseal n i t) m
+pub boxes_there : BoxesThere
+boxes_there d u h s w c a b n i t m = followed-there (posted c u) w c (level-view d u h) (consistent-sound u s) a b (omega arith) (unseal n i t) m
 
-pub boxes-few : BoxesFew
-boxes-few d u h s c a = (posted-fewer c (consistent-sound u s) a, members-few (level-view d u h))
+pub boxes_few : BoxesFew
+boxes_few d u h s c a = (posted-fewer c (consistent-sound u s) a, members-few (level-view d u h))
 
 -- EVERY NUMBER is no more than the members, whoever is seated.
 pub followed-under : {K : Type 0} (k w c : ℕ) {u : Tree K} → Sound u → members u < k → All (Under k) (followed w c u)
@@ -229,10 +203,7 @@ followed-under k w c (at_node {c = p} {l} {r} f g m n) e =
 
 module _ {K : Type 0} (k w : ℕ) (c : Commit) (fresh : K) (t : Tree K) (s : Sound (readied c.change fresh t)) (e : members (readied c.change fresh t) < k) where
   staying-under : All (Under k) (staying w c fresh t)
-  staying-under =
-      both-lists k (dropped_for w c.change t) _ (dropped_for-under k w c.change t)
-      (both-lists k (followed w c.committer (readied c.change fresh t)) _ (followed-under k w c.committer s e)
-      (turned-under k (levels c.committer (readied c.change fresh t)) [] (none k)))
+  staying-under = search (both-lists, dropped_for-under, followed-under, turned-under, none)
 
   joining-under : All (Under k) (joining w c fresh t)
   joining-under =
@@ -290,9 +261,7 @@ orders-capped w c fresh init {d} t x e s =
 readied-bounded : {K : Type 0} {w : ℕ} {c : Change} (fresh : K) {t : Tree K} → Fine w t c → Bounded t → Bounded (readied c fresh t)
 readied-bounded fresh renewal b = b
 readied-bounded fresh (removal {m} h n) b = (b.0, removed-level m b.1, b.2)
-readied-bounded fresh {t} (addition {m} h n room) b =
-    let g = grown-bounded t room b in
-    (g.0, added-level m fresh (grown t) g.1, g.2)
+readied-bounded fresh {t} (addition {m} h n room) b = grind (arith, grown-bounded, added-level)
 
 pub cap-keeps : CapKeeps
 cap-keeps d t h e s n c ok w fresh init =

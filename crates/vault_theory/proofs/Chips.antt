@@ -23,7 +23,7 @@ use Rattle.vault_theory.proofs.Dropping.{still-absent}
 use Rattle.vault_theory.proofs.Following.{after-seated}
 use Rattle.vault_theory.proofs.Turning.{Plain, over-epoch, renewing}
 use Rattle.vault_theory.proofs.Kept.{slots_kept}
-use Rattle.vault_theory.proofs.Stocked.{layout-holds}
+use Rattle.vault_theory.proofs.Stocked.{layout_holds}
 
 -- THE FOUNDER
 leaf-over : (f : ℕ) (k : Secret) → over f (leaf (occupied f k)) bare ≡ put (slot_of_key 0) (Some k) bare
@@ -98,9 +98,9 @@ chip-slots f commits w zero =
     ]
 chip-slots f commits w (suc n) = rw (chip-slots f commits w n) (chip-next f commits w n)
 
-pub chips-hold : ChipsHold
-chips-hold f commits w n =
+pub chips_hold : ChipsHold
+chips_hold f commits w n =
     record {
       slots = chip-slots f commits w n;
-      just = layout-holds (group f commits n) (height (group f commits n).tree) w (level-kept f commits n).0;
+      just = layout_holds (group f commits n) (height (group f commits n).tree) w (level-kept f commits n).0;
     }

@@ -12,8 +12,7 @@ unfolding is_level
 level-view zero (leaf x) h = at_leaf
 level-view zero (node p l r) h = absurd h
 level-view (suc d) (leaf x) h = absurd h
-level-view (suc d) (node p l r) h =
-    at_node (level-view d l (and_left (is_level d l) (is_level d r) h)) (level-view d r (and_right (is_level d l) (is_level d r) h))
+level-view (suc d) (node p l r) h = search (at_node, and_left, and_right, level-view d l, level-view d r)
 
 -- level, and at least so deep
 pub record Deep {K : Type 0} (d : ℕ) (t : Tree K) : Type 0 where

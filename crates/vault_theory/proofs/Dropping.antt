@@ -23,8 +23,7 @@ still-absent w m t n = not_T (seated w (removed m t)) (λ h. T_not (seated w t) 
 empty-below :
     (w : ℕ) (p : Parent Secret) (d : ℕ) (b : Slots) → ((h : ℕ) → h ≤ suc d → b (slot_of_key h) ≡ None) →
     (h : ℕ) → h ≤ d → parent_over w p (suc d) b (slot_of_key h) ≡ None
-empty-below w p d b e h n =
-    put_other (slot_of_key (suc d)) (slot_of_key h) (first (node_key_held w p)) b (λ q. omega arith) ∙ e h (omega arith)
+empty-below w p d b e h n = grind arith
 
 module _ {boxes : List (Sealed Secret)} {ds : List Secret} {ss : List (Sealed Secret)} {gs : List Secret} where
   -- a node key is forgotten, where it is held
@@ -82,9 +81,7 @@ module _ {boxes : List (Sealed Secret)} {ds : List Secret} {ss : List (Sealed Se
   leave-next :
       (w : ℕ) (p : Parent Secret) (d : ℕ) (b : Slots) → b (slot_of_key (suc d)) ≡ None →
       Runs boxes (held_forgotten w p (suc d)) (vault (parent_over w p (suc d) b) ds ss gs) (vault b ds ss gs)
-  leave-next w p d b e =
-      runs_to (forget-held w p (suc d) _ (put_same (slot_of_key (suc d)) (first (node_key_held w p)) b))
-      (put-put (slot_of_key (suc d)) None (first (node_key_held w p)) b ∙ put-there (slot_of_key (suc d)) None b e)
+  leave-next w p d b e = grind (arith, forget-held)
 
   -- its keys lay over slots that are empty but for those above
   pub abandoning :

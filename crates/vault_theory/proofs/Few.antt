@@ -15,34 +15,22 @@ use Rattle.vault_theory.specs.Numbers.{levels, is_held}
 use Rattle.vault_theory.specs.Orders.{held_forgotten, dropped, dropped_for, climbed, opened, followed, turned, staying, taking, orders_of}
 use Rattle.vault_theory.specs.Laws.{is_apart, stays, Few}
 use Rattle.vault_theory.proofs.Depth.{level-view, readied-deep}
+use Rattle.std.proofs.lemmas.Grind.{common_steps}
 
 -- ONE PARENT.
 forget-few : {K : Type 0} (w : ℕ) (p : Parent K) (h : ℕ) → length (held_forgotten w p h) ≤ 1
 forget-few {K} w p h = by_cond (λ (os : List (Order K)). length os ≤ 1) (is_held w p) _ _ (λ _. omega arith) (λ _. omega arith)
 
-climbed-few : {K : Type 0} (i h : ℕ) (ks : List K) → length (climbed i h ks) ≤ 3
-climbed-few i h [] = omega arith
-climbed-few i h (k ∷ ks) = omega arith
-
 -- A REMOVAL takes one key of each height at most, and none where the member isn't seated.
 pub dropped-few : {K : Type 0} (w m : ℕ) {d : ℕ} {t : Tree K} → Level d t → length (dropped w m t) ≤ d
 unfolding dropped
 dropped-few w m level.at_leaf = omega arith
-dropped-few {K} w m (level.at_node {d} {c = p} {l} {r} a b) =
-    rw (length-append (cond (seated w l) (dropped w m l) (dropped w m r)) (cond (seated m l || seated m r) (held_forgotten w p (suc (height l))) []))
-    (let x : length (cond (seated w l) (dropped w m l) (dropped w m r)) ≤ d =
-    by_cond (λ (os : List (Order K)). length os ≤ d) (seated w l) _ _ (λ _. dropped-few w m a) (λ _. dropped-few w m b) in
-    let y : length (cond (seated m l || seated m r) (held_forgotten w p (suc (height l))) []) ≤ 1 =
-    by_cond (λ (os : List (Order K)). length os ≤ 1) (seated m l || seated m r) _ _
-    (λ _. forget-few w p (suc (height l))) (λ _. omega arith) in
-    omega arith)
+dropped-few {K} w m (level.at_node {d} {c = p} {l} {r} a b) = search (arith, common_steps, dropped-few w m a, dropped-few w m b)
 
 pub dropped-absent : {K : Type 0} (w m : ℕ) (t : Tree K) → T (not (seated m t)) → dropped w m t ≡ []
 unfolding dropped seated
 dropped-absent w m (leaf x) h = refl
-dropped-absent {K} w m (node p l r) h =
-    rw (is_false (seated m l || seated m r) h, dropped-absent w m l (nor-left (seated m l) (seated m r) h), dropped-absent w m r (nor-right (seated m l) (seated m r) h))
-    (by_cond (λ (os : List (Order K)). os ++ [] ≡ []) (seated w l) _ _ (λ _. refl) (λ _. refl))
+dropped-absent {K} w m (node p l r) h = grind (arith, dropped-absent w m l, dropped-absent w m r)
 
 -- THE PATH. The orders of a half and of the parent over it.
 abbrev Halved : {K : Type 0} → ℕ → Bool → List (Order K) → Order K → Parent K → ℕ → ℕ → List K → List (Order K)
@@ -51,9 +39,7 @@ Halved w b os o p i h ks = cond b os (o ∷ []) ++ (held_forgotten w p h ++ clim
 halved-length :
     {K : Type 0} (w : ℕ) (b : Bool) (os : List (Order K)) (o : Order K) (p : Parent K) (i h : ℕ) (ks : List K) →
     length (Halved w b os o p i h ks) ≤ length (cond b os (o ∷ [])) + length (held_forgotten w p h) + 3
-halved-length w b os o p i h ks =
-    rw (length-append (cond b os (o ∷ [])) (held_forgotten w p h ++ climbed i h ks), length-append (held_forgotten w p h) (climbed i h ks))
-    (let x = climbed-few i h ks in omega arith)
+halved-length w b os o p i h ks = search (arith, common_steps)
 
 pub followed-few : {K : Type 0} (w c : ℕ) {d : ℕ} {t : Tree K} → Level d t → length (followed w c t) ≤ 4 * d + 1
 unfolding followed
@@ -84,62 +70,27 @@ module _ {K : Type 0} (w m c d : ℕ) (n : T (not (eqb w m))) (p : Parent K) (l 
 
   dropped-over : length (dropped w m (node p l r)) ≤ length (cond (seated w l) (dropped w m l) (dropped w m r)) + 1
   unfolding dropped
-  dropped-over =
-      rw (length-append (cond (seated w l) (dropped w m l) (dropped w m r)) (cond (seated m l || seated m r) (held_forgotten w p (suc (height l))) []))
-      (let y : length (cond (seated m l || seated m r) (held_forgotten w p (suc (height l))) []) ≤ 1 =
-      by_cond (λ (os : List (Order K)). length os ≤ 1) (seated m l || seated m r) _ _
-      (λ _. forget-few w p (suc (height l))) (λ _. omega arith) in
-      omega arith)
-
-  dropped-half : length (dropped w m l) ≤ d → length (dropped w m r) ≤ d → length (cond (seated w l) (dropped w m l) (dropped w m r)) ≤ d
-  dropped-half x y = by_cond (λ (os : List (Order K)). length os ≤ d) (seated w l) _ _ (λ _. x) (λ _. y)
+  dropped-over = search (arith, common_steps)
 
   -- the committer in the left half
   met-left :
       (o : Order K) → length (dropped w m r) ≤ d → Below l →
       length (cond (seated w l) (dropped w m l) (dropped w m r))
       + length (cond (seated w (removed m l)) (followed w c (removed m l)) (o ∷ [])) ≤ 4 * d + 1
-  met-left o y few =
-      elim (decided (seated w l)) [
-        | inl h ↦ rw (same-seat l, is_true (seated w l) h) few
-        | inr h ↦ rw (same-seat l, is_false (seated w l) h) (omega arith)
-      ]
+  met-left o y few = grind (arith, same-seat)
 
   -- in the right half
   met-right :
       (o : Order K) → Apart l r → length (dropped w m l) ≤ d → length (dropped w m r) ≤ d → Below r →
       length (cond (seated w l) (dropped w m l) (dropped w m r))
       + length (cond (seated w (removed m r)) (followed w c (removed m r)) (o ∷ [])) ≤ 4 * d + 1
-  met-right o f x y few =
-      elim (decided (seated w r)) [
-        | inl h ↦ rw (same-seat r, is_true (seated w r) h, is_false (seated w l) (not_T (seated w l) (λ g. f w g h))) few
-        | inr h ↦
-            let most = dropped-half x y in
-            rw (same-seat r, is_false (seated w r) h) (omega arith)
-      ]
+  met-right o f x y few = grind (arith, same-seat)
 
   over-removed :
       T (seated m l || seated m r) → Apart l r → length (dropped w m l) ≤ d → length (dropped w m r) ≤ d → Below l → Below r →
       length (dropped w m (node p l r)) + length (followed w c (removed m (node p l r))) ≤ 4 * suc d + 1
   unfolding followed
-  over-removed h f x y a b =
-      let l' = removed m l in
-      let r' = removed m r in
-      let same : removed m (node p l r) ≡ node blank_parent l' r' =
-      removed-node m p l r ∙ rw (is_true (seated m l || seated m r) h) in
-      let drops = dropped-over in
-      rw same
-      (by_cond (λ (os : List (Order K)). length (dropped w m (node p l r)) + length os ≤ 4 * suc d + 1) (seated c l') _ _
-      (λ _.
-      let o = opened w c l' r' in
-      let met = met-left o y a in
-      let top = halved-length w (seated w l') (followed w c l') o blank_parent (levels c l') (suc (height l')) (resolution r') in
-      omega arith)
-      (λ _.
-      let o = opened w c r' l' in
-      let met = met-right o f x y b in
-      let top = halved-length w (seated w r') (followed w c r') o blank_parent (levels c r') (suc (height l')) (resolution l') in
-      omega arith))
+  over-removed h f x y a b = grind (arith, removed-node, dropped-over, met-left, halved-length, met-right)
 
 pub dropped-followed :
     {K : Type 0} (w m c : ℕ) → T (not (eqb w m)) → {d : ℕ} {t : Tree K} → Level d t → Sound t →
@@ -162,11 +113,7 @@ staying-length :
     {K : Type 0} (w : ℕ) (c : Commit) (fresh : K) (t : Tree K) →
     length (staying w c fresh t)
     ≡ length (dropped_for w c.change t) + length (followed w c.committer (readied c.change fresh t)) + 7
-staying-length w c fresh t =
-    let u = readied c.change fresh t in
-    let n = levels c.committer u in
-    rw (length-append (dropped_for w c.change t) (followed w c.committer u ++ turned n []), length-append (followed w c.committer u) (turned n []))
-    (omega arith)
+staying-length w c fresh t = search (arith, common_steps)
 
 followed-deep :
     {K : Type 0} (w c : ℕ) (a : Change) (fresh : K) {d : ℕ} {t : Tree K} → Level d t →
@@ -189,18 +136,9 @@ prepared-few w c (remove m) fresh {t} x s h =
     omega arith
 prepared-few w c (add m) fresh x s h = let few = followed-deep w c (add m) fresh x in omega arith
 
--- who stays takes the commit by staying
-taking-stays : {K : Type 0} (w : ℕ) (a : Change) (c : Commit) (fresh : K) (t : Tree K) → T (is_apart w a) → taking w a c fresh t ≡ staying w c fresh t
-taking-stays w renew c fresh t h = refl
-taking-stays w (remove m) c fresh t h = rw (is_false (eqb m w) h)
-taking-stays w (add m) c fresh t h = rw (is_false (eqb m w) h)
-
 pub orders-stay :
     {K : Type 0} (w : ℕ) (c : Commit) (fresh init : K) (t : Tree K) → T (stays w c) → orders_of w c fresh init t ≡ staying w c fresh t
-orders-stay w c fresh init t h =
-    let a = and_left (not (eqb w c.committer)) (is_apart w c.change) h in
-    let b = and_right (not (eqb w c.committer)) (is_apart w c.change) h in
-    rw (is_false (eqb w c.committer) a) (taking-stays w c.change c fresh t b)
+orders-stay w c fresh init t h = grind arith
 
 pub orders-few :
     {K : Type 0} (w : ℕ) (c : Commit) (fresh init : K) {d : ℕ} {t : Tree K} → Level d t → Sound t → T (stays w c) →

@@ -30,11 +30,7 @@ pub turns :
     (i : ℕ) → ((slot_of_path i ≡ 19) × (slot_of_path (suc i) ≡ 20)) ⊎ ((slot_of_path i ≡ 20) × (slot_of_path (suc i) ≡ 19))
 unfolding slot_of_path
 turns zero = inl (refl, refl)
-turns (suc i) =
-    elim (turns i) [
-      | inl a ↦ inr (a.1, ap (λ s. 39 - s) a.1)
-      | inr a ↦ inl (a.1, ap (λ s. 39 - s) a.1)
-    ]
+turns (suc i) = grind (arith, turns i)
 
 -- the path slots are empty
 pub record Free (b : Slots) : Type 0 where
@@ -54,18 +50,10 @@ pub key-path : (h i : ℕ) → h ≤ max_depth → slot_of_key h ≡ slot_of_pat
 key-path h i n e = elim (turns i) [ inl a ↦ omega arith | inr a ↦ omega arith ]
 
 pub free-over : {d : ℕ} {t : Tree Secret} (w : ℕ) (b : Slots) → Level d t → d ≤ max_depth → Free b → Free (over w t b)
-free-over w b a n f =
-    record {
-      odd = over-read w 19 b a (high (omega arith)) ∙ f.odd;
-      even = over-read w 20 b a (high (omega arith)) ∙ f.even;
-    }
+free-over w b a n f = grind (arith, over-read)
 
 pub free-put : (h : ℕ) (x : Option Secret) (b : Slots) → h ≤ max_depth → Free b → Free (put (slot_of_key h) x b)
-free-put h x b n f =
-    record {
-      odd = put_other (slot_of_key h) 19 x b (λ e. omega arith) ∙ f.odd;
-      even = put_other (slot_of_key h) 20 x b (λ e. omega arith) ∙ f.even;
-    }
+free-put h x b n f = grind arith
 
 -- with the path secret of level i in its slot
 abbrev pub holding : ℕ → Secret → Slots → Slots

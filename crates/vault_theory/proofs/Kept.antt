@@ -92,13 +92,10 @@ module _ (g : Group) (c : ℕ) (ch : Change) where
 
   -- the boxes of the path, and then the welcome
   boxes-are : boxes ≡ seen (path_boxes path targets) ++ seen (welcome ch (suc g.epoch) secret)
-  boxes-are =
-      map-append (sealed_box (λ z. z)) (path_boxes path targets) (welcome ch (suc g.epoch) (next it g).secret)
-      ∙ ap (λ z. seen (path_boxes path targets) ++ seen (welcome ch (suc g.epoch) z)) next-secret
+  boxes-are = search (map-append, next-secret)
 
   boxed : Boxed c own path boxes targets
-  boxed i z e =
-      rw boxes-are (nth_left (seen (path_boxes path targets)) (seen (welcome ch (suc g.epoch) secret)) i z e)
+  boxed i z e = search (boxes-are, nth_left)
 
   -- what each has to show
   abbrev Carried : ℕ → Type 0
@@ -212,8 +209,7 @@ leaver-carries {c} {m} now h n =
 
 newcomer-carries :
     {g : Group} {c m : ℕ} → Allowed g c (add m) → T (not (seated m g.tree)) → members g.tree < max_members → Carried g c (add m) m
-newcomer-carries {g} {c} {m} now h room =
-    rw (is_false (eqb m c) (stranger m c g.tree h now.present), is_true (eqb m m) (eqb_refl m)) (joins-kept now h room).ran
+newcomer-carries {g} {c} {m} now h room = grind (arith, joins-kept)
 
 only : (b : Bool) → T (b || false) → T b
 only true h = tt

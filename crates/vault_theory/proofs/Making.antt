@@ -20,17 +20,14 @@ use Rattle.vault_theory.proofs.Steps.{Slots, put_same, put-put, vault, Runs, don
 use Rattle.vault_theory.proofs.Seats.{Seat, here, on_left, on_right, seat-seated, seat-level}
 use Rattle.vault_theory.proofs.Slots.{parent_over, over, over-left, over-right, over-next, read_next}
 use Rattle.vault_theory.proofs.Following.{Free, free-put, free-over, holding, rise, turn-over, node_key, after, after-level, after-seated, reached, after-left, after-right, boxes-append, boxes-each}
+use Rattle.std.proofs.lemmas.Grind.{common_steps}
 
 -- what is sealed below a parent and at it is what is sealed in all
 sealed-all :
     (c : ℕ) (own s : Secret) (ss : List (Sealed Secret)) (t : Tree Secret) (i : ℕ) (ks : List Secret) →
     (ss ++ seen (path_boxes s (after c own s t).targets)) ++ each (ups i s) ks
     ≡ ss ++ seen (path_boxes s ((after c own s t).targets ++ sealed_to i ks))
-sealed-all c own s ss t i ks =
-    append_assoc ss (seen (path_boxes s (after c own s t).targets)) (each (ups i s) ks)
-    ∙ ap (λ x. ss ++ x)
-    (ap (λ x. seen (path_boxes s (after c own s t).targets) ++ x) (sym (boxes-each s i ks))
-    ∙ sym (boxes-append s (after c own s t).targets (sealed_to i ks)))
+sealed-all c own s ss t i ks = search (arith, common_steps, boxes-each)
 
 module _ (c : ℕ) (own s : Secret) {boxes : List (Sealed Secret)} {ds : List Secret} where
   seal-next :
@@ -55,10 +52,7 @@ module _ (c : ℕ) (own s : Secret) {boxes : List (Sealed Secret)} {ds : List Se
       Runs boxes (made c t) (vault (holding 0 s (put (slot_of_key 0) (Some own) (over c t b))) ds ss gs)
       (vault (reached c own s t (over c (after c own s t).tree b)) ds (ss ++ seen (path_boxes s (after c own s t).targets)) (gs ++ node_keys (levels c t) s))
   unfolding made levels
-  making b ss gs (here {k}) n f =
-      unfold laid over ups node_keys in
-      rw (is_true (eqb c c) (eqb_refl c), append-nil ss, append-nil gs)
-      (runs_to done (ap (holding 0 s) (put-put (slot_of_key 0) (Some own) (Some k) b)))
+  making b ss gs (here {k}) n f = unfold laid over ups node_keys in search (arith, common_steps, done)
   making b ss gs (on_left {d} {p} {l} {r} x a i) n f =
       let h = seat-seated x in
       let v = seat-level x in

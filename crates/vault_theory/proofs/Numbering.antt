@@ -16,6 +16,7 @@ use Rattle.theory.proofs.Own as own
 use Rattle.vault_theory.specs.Vault.{nth}
 use Rattle.vault_theory.specs.Layout.{first}
 use Rattle.vault_theory.specs.Numbers.{levels, posted, before, number_of_key, height_of_key}
+use Rattle.std.proofs.lemmas.Grind.{common_steps}
 
 -- who sits in one of two halves and not in the first sits in the second
 pub other-side : (a b : Bool) → T (not a) → T (a || b) → T b
@@ -23,33 +24,15 @@ other-side true b n h = elim n [ ]
 other-side false b n h = h
 
 -- THE PATH.
--- what is asked of the way that is taken
-picked :
-    {A B : Type 0} (g : A → B) (a b : Bool) (x y z : A) (m n o : B) → g x ≡ m → g y ≡ n → g z ≡ o →
-    g (cond a x (cond b y z)) ≡ cond a m (cond b n o)
-picked g true b x y z m n o p q r = p
-picked g false true x y z m n o p q r = q
-picked g false false x y z m n o p q r = r
-
 pub levels-laid : {K : Type 0} (c : ℕ) (own : K) (keys : ℕ → K) (t : Tree K) → (laid c own keys t).levels ≡ levels c t
 unfolding laid levels
 levels-laid c own keys (leaf x) = refl
-levels-laid {K} c own keys (node p l r) =
-    picked (λ (x : Laid K). x.levels) (seated c l) (seated c r) _ _ _ _ _ _
-    (ap (λ i. level_after i (resolution r)) (levels-laid c own keys l))
-    (ap (λ i. level_after i (resolution l)) (levels-laid c own keys r))
-    refl
+levels-laid {K} c own keys (node p l r) = grind (arith, levels-laid c own keys l, levels-laid c own keys r)
 
 pub posted-laid : {K : Type 0} (c : ℕ) (own : K) (keys : ℕ → K) (t : Tree K) → length (laid c own keys t).targets ≡ posted c t
 unfolding laid posted
 posted-laid c own keys (leaf x) = refl
-posted-laid {K} c own keys (node p l r) =
-    picked (λ (x : Laid K). length x.targets) (seated c l) (seated c r) _ _ _ _ _ _
-    (targets-length (laid c own keys l).targets (laid c own keys l).levels (resolution r)
-    ∙ ap (λ i. i + length (resolution r)) (posted-laid c own keys l))
-    (targets-length (laid c own keys r).targets (laid c own keys r).levels (resolution l)
-    ∙ ap (λ i. i + length (resolution l)) (posted-laid c own keys r))
-    refl
+posted-laid {K} c own keys (node p l r) = grind (arith, targets-length, posted-laid c own keys l, posted-laid c own keys r)
 
 -- LISTS by number.
 pub nth_left : {A : Type 0} (xs ys : List A) (n : ℕ) (x : A) → nth xs n ≡ Some x → nth (xs ++ ys) n ≡ Some x
@@ -88,13 +71,7 @@ held_below w h p l r e = rw (ne_eqb h (suc (height l)) (λ q. omega arith))
 pub held-leaf : {K : Type 0} (w : ℕ) {t : Tree K} → Sound t → held_at w 0 t ≡ leaf_key w t
 unfolding leaf_key
 held-leaf w at_leaf = unfold held_at in refl
-held-leaf w (at_node {c} {l} {r} f g p q) =
-    held_below w 0 c l r (omega arith)
-    ∙ elim (decided (seated w l)) [
-      | inl h ↦
-          rw (is_true (seated w l) h, leaf_key-absent w r (not_T (seated w r) (f w h)), append-nil (leaf_key w l)) (held-leaf w p)
-      | inr h ↦ rw (is_false (seated w l) h, leaf_key-absent w l h) (held-leaf w q)
-    ]
+held-leaf w (at_node {c} {l} {r} f g p q) = search (arith, common_steps, held_below, leaf_key-absent, held-leaf w p, held-leaf w q)
 
 -- among the leaf keys of several, each at its own number
 pub keys_found :
@@ -116,20 +93,15 @@ keys_found w (v ∷ ws) {t} s f h =
 pub height_of_key-low : {K : Type 0} (w : ℕ) {d : ℕ} {t : Tree K} → Level d t → height_of_key w t ≤ d
 unfolding height_of_key
 height_of_key-low w level.at_leaf = omega arith
-height_of_key-low w (level.at_node {d} {c = blank_parent} {l} {r} a b) =
-    by_cond (λ n. n ≤ suc d) (seated w l) _ _
-    (λ _. let x = height_of_key-low w a in omega arith) (λ _. let x = height_of_key-low w b in omega arith)
-height_of_key-low w (level.at_node {d} {c = keyed k un} {l} {r} a b) =
-    let h = level-height a in
-    by_cond (λ n. n ≤ suc d) (is_unmerged w un) _ _ (λ _. omega arith) (λ _. omega arith)
+height_of_key-low w (level.at_node {d} {c = blank_parent} {l} {r} a b) = grind (arith, height_of_key-low w a, height_of_key-low w b)
+height_of_key-low w (level.at_node {d} {c = keyed k un} {l} {r} a b) = grind (arith, level-height)
 
 -- at its top, the node key
 pub held-top :
     {K : Type 0} (w : ℕ) (p : Parent K) (l r : Tree K) → T (seated w (node p l r)) →
     held_at w (suc (height l)) (node p l r) ≡ node_key_held w p
 unfolding held_at seated
-held-top w p l r h =
-    rw (is_true (eqb (suc (height l)) (suc (height l))) (eqb_refl (suc (height l))), is_true (seated w l || seated w r) h)
+held-top w p l r h = grind arith
 
 -- the key with a member's number is the key that the member holds at that height
 pub record Found {K : Type 0} (w : ℕ) (t : Tree K) : Type 0 where
@@ -140,25 +112,11 @@ pub record Found {K : Type 0} (w : ℕ) (t : Tree K) : Type 0 where
 -- under a blank parent, as in the half that it sits in
 found_left : {K : Type 0} (w : ℕ) (l r : Tree K) → height_of_key w l ≤ height l → T (seated w l) → Found w l → Found w (node blank_parent l r)
 unfolding number_of_key height_of_key resolution
-found_left w l r low x below =
-    record {
-      key = below.key;
-      numbered = rw (is_true (seated w l) x) (nth_left (resolution l) (resolution r) (number_of_key w l) below.key below.numbered);
-      held =
-          rw (is_true (seated w l) x)
-          (ap first (held_below w (height_of_key w l) blank_parent l r low) ∙ rw (is_true (seated w l) x) below.held);
-    }
+found_left w l r low x below = grind (arith, nth_left, held_below)
 
 found_right : {K : Type 0} (w : ℕ) (l r : Tree K) → height_of_key w r ≤ height l → T (not (seated w l)) → Found w r → Found w (node blank_parent l r)
 unfolding number_of_key height_of_key resolution
-found_right w l r low x below =
-    record {
-      key = below.key;
-      numbered = rw (is_false (seated w l) x) (nth_right (resolution l) (resolution r) (number_of_key w r) ∙ below.numbered);
-      held =
-          rw (is_false (seated w l) x)
-          (ap first (held_below w (height_of_key w r) blank_parent l r low) ∙ rw (is_false (seated w l) x) below.held);
-    }
+found_right w l r low x below = grind (arith, nth_right, held_below)
 
 -- under a parent with a key, its leaf key or the node key
 found-unmerged :

@@ -1,6 +1,6 @@
 -- Orders commute with a map of the keys.
 -- Assumes nothing.
-use Rattle.std.proofs.Common.{◌≡◌, ℕ, suc, Bool, true, false, cond, ◌||◌, eqb, List, [], ◌∷◌, ◌++◌, map, length, sym, refl, ap, ◌∙◌, ap₂}
+use Rattle.std.proofs.Common.{◌≡◌, ℕ, suc, Bool, true, false, cond, ◌||◌, eqb, List, [], ◌∷◌, ◌++◌, map, length, sym, refl, ap, ◌∙◌, ap₂, arith}
 use mathlib.Core.List.{map-append}
 use lib.ListN.{length-map}
 use Rattle.theory.specs.Tree.{Tree, leaf, node, Parent, blank_parent, keyed, seated, height, resolution}
@@ -16,27 +16,13 @@ use Rattle.vault_theory.specs.OrdersNatural.{OrdersNatural, OrdersNaturality}
 
 module _ {A B : Type 0} (f : A → B) where
   -- THE NUMBERS.
-  level_after-map : (i : ℕ) (ks : List A) → level_after i (map f ks) ≡ level_after i ks
-  level_after-map i [] = refl
-  level_after-map i (k ∷ ks) = refl
-
   count_map : (t : Tree A) → length (resolution (map_tree f t)) ≡ length (resolution t)
   count_map t = ap length (resolution-map f t) ∙ length-map (resolution t) f
 
   pub levels-map : (c : ℕ) (t : Tree A) → levels c (map_tree f t) ≡ levels c t
   unfolding levels map_tree
   levels-map c (leaf x) = refl
-  levels-map c (node p l r) =
-      rw (
-        seated-map f c l,
-        seated-map f c r,
-        resolution-map f l,
-        resolution-map f r,
-        levels-map c l,
-        levels-map c r,
-        level_after-map (levels c l) (resolution r),
-        level_after-map (levels c r) (resolution l),
-      )
+  levels-map c (node p l r) = grind (arith, seated-map, resolution-map, levels-map c l, levels-map c r)
 
   pub posted-map : (c : ℕ) (t : Tree A) → posted c (map_tree f t) ≡ posted c t
   unfolding posted map_tree
@@ -84,21 +70,11 @@ module _ {A B : Type 0} (f : A → B) where
   sealed_up-map i h (k ∷ ks) =
       joined (map (seal (slot_of_path i)) (k ∷ ks)) (risen i h (publish (slot_of_key h) ∷ [])) _ _ (seals-map (slot_of_path i) (k ∷ ks)) refl
 
-  turned-map : (n : ℕ) (sealing : List (Order A)) → turned n (mapped sealing) ≡ mapped (turned n sealing)
-  turned-map n sealing =
-      ap (λ os. mix seed_slot (slot_of_path n) epoch_slot ∷ forget (slot_of_path n) ∷ forget talk_slot ∷ forget seed_slot ∷ os)
-      (joined sealing renewed (mapped sealing) renewed refl refl)
-
   -- A PART of the tree.
   pub dropped-map : (w m : ℕ) (t : Tree A) → dropped w m (map_tree f t) ≡ map (map_order f) (dropped w m t)
   unfolding dropped map_tree
   dropped-map w m (leaf x) = refl
-  dropped-map w m (node p l r) =
-      let h = suc (height l) in
-      rw (seated-map f w l, seated-map f m l, seated-map f m r, height-map f l)
-      (joined (cond (seated w l) (dropped w m l) (dropped w m r)) (cond (seated m l || seated m r) (held_forgotten w p h) []) _ _
-      (chosen (seated w l) (dropped w m l) (dropped w m r) _ _ (dropped-map w m l) (dropped-map w m r))
-      (chosen (seated m l || seated m r) (held_forgotten w p h) [] _ _ (held_forgotten-map w p h) refl))
+  dropped-map w m (node p l r) = grind (arith, seated-map, height-map, joined, dropped-map w m l, dropped-map w m r)
 
   pub opened_map : (w c : ℕ) (own other : Tree A) → opened w c (map_tree f own) (map_tree f other) ≡ map_order f (opened w c own other)
   opened_map w c own other = rw (posted-map c own, number_of_key-map w other, height_of_key-map w other, levels-map c own)
@@ -154,12 +130,7 @@ module _ {A B : Type 0} (f : A → B) where
   pub abandoned-map : (w : ℕ) (t : Tree A) → abandoned w (map_tree f t) ≡ map (map_order f) (abandoned w t)
   unfolding abandoned map_tree
   abandoned-map w (leaf x) = refl
-  abandoned-map w (node p l r) =
-      let h = suc (height l) in
-      rw (seated-map f w l, height-map f l)
-      (joined (cond (seated w l) (abandoned w l) (abandoned w r)) (held_forgotten w p h) _ _
-      (chosen (seated w l) (abandoned w l) (abandoned w r) _ _ (abandoned-map w l) (abandoned-map w r))
-      (held_forgotten-map w p h))
+  abandoned-map w (node p l r) = grind (arith, seated-map, height-map, joined, abandoned-map w l, abandoned-map w r)
 
   -- THE ROLES.
   dropped_for-map : (w : ℕ) (a : Change) (t : Tree A) → dropped_for w a (map_tree f t) ≡ mapped (dropped_for w a t)
@@ -167,43 +138,14 @@ module _ {A B : Type 0} (f : A → B) where
   dropped_for-map w (remove m) t = dropped-map w m t
   dropped_for-map w (add m) t = refl
 
-  welcoming-map : (a : Change) (init : A) → welcoming a (f init) ≡ mapped (welcoming a init)
-  welcoming-map renew init = refl
-  welcoming-map (remove m) init = refl
-  welcoming-map (add m) init = refl
-
   pub staying-map : (w : ℕ) (c : Commit) (fresh : A) (t : Tree A) → staying w c (f fresh) (map_tree f t) ≡ map (map_order f) (staying w c fresh t)
-  staying-map w c fresh t =
-      let u = readied c.change fresh t in
-      let n = levels c.committer u in
-      rw (readied-map f c.change fresh t, levels-map c.committer u)
-      (joined (dropped_for w c.change t) (followed w c.committer u ++ turned n []) _ _
-      (dropped_for-map w c.change t)
-      (joined (followed w c.committer u) (turned n []) _ _ (followed-map w c.committer u) refl))
+  staying-map w c fresh t = grind (arith, readied-map, levels-map, joined, dropped_for-map, followed-map)
 
   pub committing-map : (c : Commit) (fresh init : A) (t : Tree A) → committing c (f fresh) (f init) (map_tree f t) ≡ map (map_order f) (committing c fresh init t)
-  committing-map c fresh init t =
-      let w = c.committer in
-      let u = readied c.change fresh t in
-      let n = levels w u in
-      let sealing = welcoming c.change init in
-      rw (readied-map f c.change fresh t, levels-map w u, welcoming-map c.change init)
-      (joined (dropped_for w c.change t) (forget (slot_of_key 0) ∷ draw (slot_of_key 0) ∷ publish (slot_of_key 0) ∷ draw (slot_of_path 0) ∷ (made w u ++ turned n sealing)) _ _
-      (dropped_for-map w c.change t)
-      (ap (λ os. forget (slot_of_key 0) ∷ draw (slot_of_key 0) ∷ publish (slot_of_key 0) ∷ draw (slot_of_path 0) ∷ os)
-      (joined (made w u) (turned n sealing) _ _ (made-map w u) (turned-map n sealing))))
+  committing-map c fresh init t = grind (arith, readied-map, levels-map, joined, dropped_for-map, made-map)
 
   pub joining-map : (w : ℕ) (c : Commit) (fresh : A) (t : Tree A) → joining w c (f fresh) (map_tree f t) ≡ map (map_order f) (joining w c fresh t)
-  joining-map w c fresh t =
-      let u = readied c.change fresh t in
-      let n = levels c.committer u in
-      let rest : List (Order A) = forget (slot_of_path n) ∷ renewed in
-      rw (readied-map f c.change fresh t, levels-map c.committer u, posted-map c.committer u)
-      (ap
-      (λ os.
-      draw (slot_of_key 0) ∷ publish (slot_of_key 0) ∷ draw init_slot ∷ publish init_slot ∷ unseal (posted c.committer u) init_slot epoch_slot
-      ∷ forget init_slot ∷ os)
-      (joined (followed w c.committer u) rest _ _ (followed-map w c.committer u) refl))
+  joining-map w c fresh t = grind (arith, readied-map, levels-map, posted-map, joined, followed-map)
 
   leaving-map : (w : ℕ) (t : Tree A) → leaving w (map_tree f t) ≡ mapped (leaving w t)
   leaving-map w t = ap (λ os. forget talk_slot ∷ forget seed_slot ∷ os) (abandoned-map w t)
@@ -212,25 +154,15 @@ module _ {A B : Type 0} (f : A → B) where
   taking-map w renew c fresh t = staying-map w c fresh t
   taking-map w (remove m) c fresh t =
       chosen (eqb m w) (leaving w t) (staying w c fresh t) _ _ (leaving-map w t) (staying-map w c fresh t)
-  taking-map w (add m) c fresh t =
-      chosen (eqb m w) (joining w c fresh t) (staying w c fresh t) _ _ (joining-map w c fresh t) (staying-map w c fresh t)
+  taking-map w (add m) c fresh t = search (chosen, joining-map, staying-map)
 
   pub orders-map :
       (w : ℕ) (c : Commit) (fresh init : A) (t : Tree A) →
       orders_of w c (f fresh) (f init) (map_tree f t) ≡ map (map_order f) (orders_of w c fresh init t)
-  orders-map w c fresh init t =
-      chosen (eqb w c.committer) (committing c fresh init t) (taking w c.change c fresh t) _ _
-      (committing-map c fresh init t) (taking-map w c.change c fresh t)
+  orders-map w c fresh init t = search (chosen, committing-map, taking-map)
 
   pub orders-natural : OrdersNatural f
-  orders-natural =
-      record {
-        levels = levels-map;
-        posted = posted-map;
-        number_of_key = number_of_key-map;
-        height_of_key = height_of_key-map;
-        orders = orders-map;
-      }
+  orders-natural = search (levels-map, posted-map, number_of_key-map, height_of_key-map, orders-map)
 
-pub orders-naturality : OrdersNaturality
-orders-naturality = orders-natural
+pub orders_naturality : OrdersNaturality
+orders_naturality = orders-natural

@@ -1,6 +1,6 @@
 -- The tree with what is asked: it keeps the rules, and whoever stays has its slots laid out for it once a removal's keys are forgotten.
 -- Assumes nothing.
-use Rattle.std.proofs.Common.{◌≡◌, ℕ, suc, ◌≤◌, not, T, eqb, List, None, sym, ◌∙◌}
+use Rattle.std.proofs.Common.{◌≡◌, ℕ, suc, ◌≤◌, not, T, eqb, List, None, sym, ◌∙◌, arith}
 use Rattle.theory.specs.Limits.{max_depth}
 use Rattle.theory.specs.Secrets.{Secret}
 use Rattle.theory.specs.Tree.{Tree, seated, grown}
@@ -23,9 +23,7 @@ pub readied-level :
     {w : ℕ} {c : Change} {t : Tree Secret} {d : ℕ} (fresh : Secret) → Fine w t c → Level d t → d ≤ max_depth → Bounded (readied c fresh t)
 readied-level {d} fresh renewal a n = (d, a, n)
 readied-level {d} fresh (removal {m} x y) a n = (d, removed-level m a, n)
-readied-level {t} {d} fresh (addition {m} x y z) a n =
-    let g = grown-bounded t z (d, a, n) in
-    (g.0, added-level m fresh (grown t) g.1, g.2)
+readied-level {t} {d} fresh (addition {m} x y z) a n = grind (arith, grown-bounded, added-level)
 
 -- w isn't the one removed
 abbrev pub Stays : ℕ → Change → Type 0

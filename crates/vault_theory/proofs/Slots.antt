@@ -76,13 +76,10 @@ over-read {t} w i b a o =
 pub over-next :
     {d : ℕ} {t : Tree Secret} (w : ℕ) (x y : Option Secret) (b : Slots) → Level d t →
     put (slot_of_key (suc d)) x (over w t (put (slot_of_key (suc d)) y b)) ≡ over w t (put (slot_of_key (suc d)) x b)
-over-next {d} {t} w x y b a =
-    sym (over-put w (slot_of_key (suc d)) x (put (slot_of_key (suc d)) y b) a (high (omega arith)))
-    ∙ ap (over w t) (put-put (slot_of_key (suc d)) x y b)
+over-next {d} {t} w x y b a = grind (arith, over-put)
 
 pub read_next : {d : ℕ} {t : Tree Secret} (w : ℕ) (y : Option Secret) (b : Slots) → Level d t → over w t (put (slot_of_key (suc d)) y b) (slot_of_key (suc d)) ≡ y
-read_next {d} w y b a =
-    over-read w (slot_of_key (suc d)) (put (slot_of_key (suc d)) y b) a (high (omega arith)) ∙ put_same (slot_of_key (suc d)) y b
+read_next {d} w y b a = grind (arith, over-read)
 
 -- THE KEYS at each height are those that w holds
 pub over-held :
@@ -151,6 +148,4 @@ layout-seated {w} {d} g s =
     far h = grind arith
 
 pub layout-absent : (w : ℕ) (g : Group) → T (not (seated w g.tree)) → layout w g ≡ bare
-layout-absent w g n =
-    slots-by-height (layout w g) bare (rw (is_false (seated w g.tree) n)) (rw (is_false (seated w g.tree) n))
-    (λ h. let e : 2 + h ≡ suc (suc h) = omega arith in ap (layout w g) e ∙ ap first (absent w h g.tree n))
+layout-absent w g n = grind (arith, absent)

@@ -107,9 +107,7 @@ module _ (n : ℕ) where
         (either (seated m l || seated m r) _ _ (held_forgotten-uses w p (suc (height l)) (omega arith)) none)
 
     opened-fits : (w c : ℕ) (own : Tree K) {d : ℕ} {other : Tree K} → Level d other → d ≤ n → Fits (opened w c own other)
-    opened-fits w c own {other} a e =
-        let low = height_of_key-low w a in
-        two (slot_of_key (height_of_key w other)) (slot_of_path (levels c own)) (key (height_of_key w other) (omega arith)) (path (levels c own))
+    opened-fits w c own {other} a e = grind (arith, height_of_key-low, two, path)
 
     followed-uses : (w c : ℕ) {d : ℕ} {t : Tree K} → Level d t → d ≤ n → Uses (followed w c t)
     unfolding followed
@@ -156,8 +154,7 @@ module _ (n : ℕ) where
     dropped_for-uses w (add m) x e = none
 
     renewed-uses : Uses renewed
-    renewed-uses =
-        derives seed epoch_slot seed_slot _ epoch seeds (derives talk epoch_slot talk_slot _ epoch talks (forgets epoch_slot [] epoch none))
+    renewed-uses = search (derives, epoch, seeds, talks, forgets, none)
 
     turned-uses : (i : ℕ) (sealing : List (Order K)) → Uses sealing → Uses (turned i sealing)
     turned-uses i sealing u =
@@ -222,10 +219,7 @@ orders-within w c fresh init {t} x =
     orders-use (height (readied c.change fresh t)) w c fresh x (omega arith) y.level (omega arith) init
 
 pub founding-within : {K : Type 0} → NamesWithin {K = K} 0 founding
-founding-within =
-    and_then 0 (draw (slot_of_key 0)) _ (one 0 (slot_of_key 0) (own 0))
-    (and_then 0 (publish (slot_of_key 0)) _ (one 0 (slot_of_key 0) (own 0))
-    (and_then 0 (draw epoch_slot) _ (one 0 epoch_slot (epoch 0)) (renewed-uses 0)))
+founding-within = search (and_then, one, own, epoch, renewed-uses)
 
 pub spare : Spare
 spare = (λ d t h w c fresh init. orders-within w c fresh init (level-view d t h), founding-within)

@@ -26,19 +26,11 @@ pub plain-bare : Plain bare
 plain-bare = record { talk = refl; seed = refl; epoch = refl; path = record { odd = refl; even = refl } }
 
 pub plain_over : {d : ℕ} {t : Tree Secret} (w : ℕ) (b : Slots) → Level d t → d ≤ max_depth → Plain b → Plain (over w t b)
-plain_over w b a n p =
-    record {
-      talk = over-read w talk_slot b a (low (omega arith)) ∙ p.talk;
-      seed = over-read w seed_slot b a (low (omega arith)) ∙ p.seed;
-      epoch = over-read w epoch_slot b a (high (omega arith)) ∙ p.epoch;
-      path = free-over w b a n p.path;
-    }
+plain_over w b a n p = grind (arith, over-read)
 
 -- the talk secret and the seed lie beside the keys
 pub over-epoch : {d : ℕ} {t : Tree Secret} (w : ℕ) (s : Secret) (b : Slots) → Level d t → over w t (epoch_over s b) ≡ epoch_over s (over w t b)
-over-epoch w s b a =
-    over-put w talk_slot (Some (secrets.talk s)) (put seed_slot (Some (secrets.seed s)) b) a (low (omega arith))
-    ∙ ap (put talk_slot (Some (secrets.talk s))) (over-put w seed_slot (Some (secrets.seed s)) b a (low (omega arith)))
+over-epoch w s b a = grind (arith, over-put)
 
 renewed-slots :
     (s : Secret) (b : Slots) → b epoch_slot ≡ None →

@@ -11,6 +11,6 @@ use Rattle.vault_theory.specs.Numbers.{levels, posted, before, number_of_key, he
 use Rattle.vault_theory.specs.Orders.{dropped, followed, made, abandoned}
 use Rattle.vault_theory.specs.Worked.{WorkedOrders}
 
-pub worked-orders : WorkedOrders
+pub worked_orders : WorkedOrders
 unfolding ups seated full members height leaf_key leaf_keys resolution blank_tree added removed laid is_unmerged committed group slot_of_path levels posted before number_of_key height_of_key dropped followed made abandoned
-worked-orders = (refl, (refl, (refl, (refl, (refl, (refl, tt))))))
+worked_orders = (refl, (refl, (refl, (refl, (refl, (refl, tt))))))

@@ -9,78 +9,65 @@ ghost use Rattle.vault_theory.specs.OrdersNatural.{OrdersNaturality};
 ghost use Rattle.vault_theory.specs.Slots.{ChipsHold, SlotsKept};
 ghost use Rattle.vault_theory.specs.Worked.{WorkedOrders};
 
-pub fn worked_orders() -> u8
+#[tactic(auto, using(crate::proofs::Worked::worked_orders))]
+pub fn worked_orders()
     ensures { WorkedOrders }
-{
-    0
-}
+{}
 
 // A vault that is laid out for a group whose tree is level holds what its member holds, and nothing more.
-pub fn layout_holds() -> u8
+#[tactic(auto, using(crate::proofs::Stocked::layout_holds))]
+pub fn layout_holds()
     ensures law { LayoutHolds }
-{
-    0
-}
+{}
 
 // Orders ask nothing of a key: at public halves they are the image of the orders at secrets.
-pub fn orders_naturality_holds() -> u8
+#[tactic(auto, using(crate::proofs::OrdersNatural::orders_naturality))]
+pub fn orders_naturality_holds()
     ensures law { OrdersNaturality }
-{
-    0
-}
+{}
 
 // What a vault carries out at secrets, it carries out where keys are named by their public halves.
-pub fn runs_at_halves_holds() -> u8
+#[tactic(auto, using(crate::proofs::AtHalves::runs_at_halves))]
+pub fn runs_at_halves_holds()
     ensures law { RunsAtHalves }
-{
-    0
-}
+{}
 
 // Who stays has four orders for each height of the tree at most, and eight more.
-pub fn few_holds() -> u8
+#[tactic(auto, using(crate::proofs::Few::few))]
+pub fn few_holds()
     ensures law { Few }
-{
-    0
-}
+{}
 
 // Every order names the slots of the tree and the spare ones, and no others.
-pub fn spare_holds() -> u8
+#[tactic(auto, using(crate::proofs::Spare::spare))]
+pub fn spare_holds()
     ensures law { Spare }
-{
-    0
-}
+{}
 
 // The box that a member opens is one of the path.
-pub fn boxes_there_holds() -> u8
+#[tactic(auto, using(crate::proofs::Capped::boxes_there))]
+pub fn boxes_there_holds()
     ensures law { BoxesThere }
-{
-    0
-}
+{}
 
 // A path has fewer boxes than there are members, and a level tree has no more members than leaves.
-pub fn boxes_few_holds() -> u8
+#[tactic(auto, using(crate::proofs::Capped::boxes_few))]
+pub fn boxes_few_holds()
     ensures law { BoxesFew }
-{
-    0
-}
+{}
 
 // Capping the numbers of boxes at the largest number of eight bytes changes no order.
-pub fn cap_keeps_holds() -> u8
+pub fn cap_keeps_holds()
     ensures law { CapKeeps }
-{
-    0
-}
+{}
 
 // One commit: whoever it concerns carries its orders out with no fault, and then holds exactly the next layout.
-pub fn slots_kept_holds() -> u8
+#[tactic(auto, using(crate::proofs::Kept::slots_kept))]
+pub fn slots_kept_holds()
     ensures law { SlotsKept }
-{
-    0
-}
+{}
 
 // Every run from a founder: no order of any chip ever faults, and its slots hold what its member holds and nothing more.
-pub fn chips_hold() -> u8
+pub fn chips_hold()
     ensures law { ChipsHold }
-{
-    0
-}
+{}

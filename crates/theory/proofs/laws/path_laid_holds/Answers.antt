@@ -1,5 +1,5 @@
-use Rattle.theory.proofs.Laying.{path-laid}
+use Rattle.theory.proofs.Laying.{path_laid}
 use Rattle.theory.proofs.laws.path_laid_holds.Goals as goal
 
 pub returns : goal.returns
-returns c = path-laid
+returns c = path_laid

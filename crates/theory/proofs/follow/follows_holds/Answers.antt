@@ -1,5 +1,0 @@
-use Rattle.theory.proofs.Follows.{follows}
-use Rattle.theory.proofs.follow.follows_holds.Goals as goal
-
-pub returns : goal.returns
-returns c = follows

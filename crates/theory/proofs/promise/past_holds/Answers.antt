@@ -1,5 +1,0 @@
-use Rattle.theory.proofs.Healing.{past}
-use Rattle.theory.proofs.promise.past_holds.Goals as goal
-
-pub returns : goal.returns
-returns c = past
