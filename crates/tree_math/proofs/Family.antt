@@ -1,16 +1,17 @@
 -- Parents and children, and where each ends.
 use Rattle.std.proofs.Common.{◌≡◌, ℕ, zero, suc, ◌+◌, ◌-◌, ◌*◌, ◌^◌, ◌<◌, ◌≤◌, Some, None, Option, sym, refl, ap, ◌∙◌, subst, inl, inr, pow-suc, arith, pow_pos}
 use Rattle.std.proofs.lemmas.Bool.{cases_lt, cases_eq}
+use Rattle.std.proofs.lemmas.Option.{none-some, same_Some}
 use Rattle.tree_math.specs.Index.{root_of, height_of, parent_of, left_of, right_of, from_right}
 use Rattle.tree_math.specs.Laws.{node_over, ChildHeights, ChildlessLeaves, ParentOfChildren, ChildrenOfParent, RootHasNoParent, Outside}
 use Rattle.tree_math.specs.Span.{span}
 use Rattle.tree_math.proofs.Span.{span-suc, span-double, span_pos, middle-span}
 use Rattle.tree_math.proofs.Numbering.{height-root, numbering}
 use Rattle.tree_math.proofs.Steps as steps
-use Rattle.tree_math.proofs.Steps.{side, before, here, behind, some-injects, none-some, from_right-some}
+use Rattle.tree_math.proofs.Steps.{side, before, here, behind, from_right-some}
 
 -- past the last node
-outside : (d i : ℕ) → span d ≤ i → (height_of d i ≡ None) × (parent_of d i ≡ None) × (left_of d i ≡ None) × (right_of d i ≡ None)
+pub outside : (d i : ℕ) → span d ≤ i → (height_of d i ≡ None) × (parent_of d i ≡ None) × (left_of d i ≡ None) × (right_of d i ≡ None)
 outside zero i l = (steps.height-none i (λ e. omega (arith, span_pos 0)), steps.parent-none i, steps.left-none i, steps.right-none i)
 outside (suc h) i l =
     let g : span h < i = omega (arith, span-suc h, span_pos h) in
@@ -25,15 +26,15 @@ pub outside-holds : Outside
 outside-holds = outside
 
 -- a node with a height is in the tree
-inside : (d i h : ℕ) → height_of d i ≡ Some h → i < span d
+pub inside : (d i h : ℕ) → height_of d i ≡ Some h → i < span d
 inside d i h e =
     elim (cases_lt i (span d)) [ inl l ↦ l | inr g ↦ absurd (none-some h (sym (outside d i g).0 ∙ e)) ]
 
 -- the nodes below a node lie in the tree, 2 ^ h - 1 on either side
-room : (d i h : ℕ) → height_of d i ≡ Some h → (k : ℕ) × (h ≤ d) × (k < 2 ^ (d - h)) × (i ≡ node_over h k)
+pub room : (d i h : ℕ) → height_of d i ≡ Some h → (k : ℕ) × (h ≤ d) × (k < 2 ^ (d - h)) × (i ≡ node_over h k)
 room d i h e =
     let r = numbering.1 d i (inside d i h e) in
-    let same : r.0 ≡ h = some-injects r.0 h (sym r.4 ∙ e) in
+    let same : r.0 ≡ h = same_Some r.0 h (sym r.4 ∙ e) in
     subst (λ (x : ℕ). (k : ℕ) × (x ≤ d) × (k < 2 ^ (d - x)) × (i ≡ node_over x k)) same (r.1, r.2, r.3, r.5)
 
 -- the way up ends at the root
@@ -70,7 +71,7 @@ root-has-no-parent d = (height-root d, root-parent d, only-root d)
 height-at-zero : (i h : ℕ) → height_of 0 i ≡ Some h → h ≡ 0
 height-at-zero i h e =
     elim (cases_eq i 0) [
-      | inl z ↦ sym (some-injects 0 h (sym (ap (λ (x : ℕ). height_of 0 x) z ∙ steps.height-zero) ∙ e))
+      | inl z ↦ sym (same_Some 0 h (sym (ap (λ (x : ℕ). height_of 0 x) z ∙ steps.height-zero) ∙ e))
       | inr ne ↦ absurd (none-some h (sym (steps.height-none i ne) ∙ e))
     ]
 
@@ -82,7 +83,7 @@ child-places (suc d) i h e =
           let r = child-places d i h (sym (steps.height-before d i b) ∙ e) in
           (steps.left-before d i b ∙ r.0, steps.right-before d i b ∙ r.1)
       | here q ↦
-          let same : suc d ≡ suc h = some-injects (suc d) (suc h) (sym (steps.height-here d i q) ∙ e) in
+          let same : suc d ≡ suc h = same_Some (suc d) (suc h) (sym (steps.height-here d i q) ∙ e) in
           let pows : 2 ^ d ≡ 2 ^ h = ap (λ (x : ℕ). 2 ^ x) (omega arith) in
           (steps.left_here d i q ∙ ap Some (omega (arith, span-double d)), steps.right-here d i q ∙ ap Some (omega (arith, span-double d)))
       | behind j q ↦
@@ -117,7 +118,7 @@ childless-leaves (suc d) i e =
       | before b ↦
           let r = childless-leaves d i (sym (steps.height-before d i b) ∙ e) in
           (steps.left-before d i b ∙ r.0, steps.right-before d i b ∙ r.1)
-      | here q ↦ absurd (omega (arith, some-injects (suc d) 0 (sym (steps.height-here d i q) ∙ e)))
+      | here q ↦ absurd (omega (arith, same_Some (suc d) 0 (sym (steps.height-here d i q) ∙ e)))
       | behind j q ↦
           let r = childless-leaves d (i - (span d + 1)) (sym (steps.height-behind d i (omega arith)) ∙ e) in
           (steps.left_behind d i (omega arith) ∙ ap (λ o. from_right d o) r.0, steps.right-behind d i (omega arith) ∙ ap (λ o. from_right d o) r.1)
@@ -136,7 +137,7 @@ left-parent (suc h) i c e =
           let up : parent_of h c ≡ Some i = left-parent h i c inner in
           steps.parent-before h c (steps.left-within h i c inner) (not_root h i c up) ∙ up
       | here q ↦
-          let r : root_of h ≡ c = some-injects (root_of h) c (sym (steps.left_here h i q) ∙ e) in
+          let r : root_of h ≡ c = same_Some (root_of h) c (sym (steps.left_here h i q) ∙ e) in
           steps.parent-before-root h c (omega (arith, span_pos h)) (omega arith) ∙ ap Some (sym q)
       | behind j q ↦
           let w = from_right-some h c (left_of h (i - (span h + 1))) (sym (steps.left_behind h i (omega arith)) ∙ e) in
@@ -156,7 +157,7 @@ right-parent (suc h) i c e =
           let up : parent_of h c ≡ Some i = right-parent h i c inner in
           steps.parent-before h c (steps.right-within h i c inner) (not_root h i c up) ∙ up
       | here q ↦
-          let r : span h + 1 + root_of h ≡ c = some-injects (span h + 1 + root_of h) c (sym (steps.right-here h i q) ∙ e) in
+          let r : span h + 1 + root_of h ≡ c = same_Some (span h + 1 + root_of h) c (sym (steps.right-here h i q) ∙ e) in
           steps.parent-behind-root h c (omega (arith, span_pos h)) (omega arith) ∙ ap Some (sym q)
       | behind j q ↦
           let w = from_right-some h c (right_of h (i - (span h + 1))) (sym (steps.right-behind h i (omega arith)) ∙ e) in
@@ -177,7 +178,7 @@ children-of-parent (suc h) i c e =
       | before b ↦
           elim (cases_eq c (root_of h)) [
             | inl r ↦
-                let top : span h ≡ i = some-injects (span h) i (sym (steps.parent-before-root h c b r) ∙ e) in
+                let top : span h ≡ i = same_Some (span h) i (sym (steps.parent-before-root h c b r) ∙ e) in
                 inl (steps.left_here h i (sym top) ∙ ap Some (sym r))
             | inr ne ↦
                 let inner : parent_of h c ≡ Some i = sym (steps.parent-before h c b ne) ∙ e in
@@ -189,7 +190,7 @@ children-of-parent (suc h) i c e =
       | behind j q ↦
           elim (cases_eq (c - (span h + 1)) (root_of h)) [
             | inl r ↦
-                let top : span h ≡ i = some-injects (span h) i (sym (steps.parent-behind-root h c (omega arith) r) ∙ e) in
+                let top : span h ≡ i = same_Some (span h) i (sym (steps.parent-behind-root h c (omega arith) r) ∙ e) in
                 inr (steps.right-here h i (sym top) ∙ ap Some (omega arith))
             | inr ne ↦
                 let w = from_right-some h i (parent_of h (c - (span h + 1))) (sym (steps.parent-behind h c (omega arith) ne) ∙ e) in

@@ -1,7 +1,7 @@
 -- One step of the walk from the top: what a function answers before the middle node, at it and behind it.
-use Rattle.std.proofs.Common.{◌≡◌, ℕ, zero, suc, ◌+◌, ◌-◌, ◌/◌, ◌<◌, eqb, ltb, Some, None, Option, sym, refl, ap, ◌∙◌, inl, inr, arith}
+use Rattle.std.proofs.Common.{◌≡◌, ℕ, zero, suc, ◌+◌, ◌-◌, ◌<◌, eqb, ltb, Some, None, Option, sym, refl, ◌∙◌, inl, inr, arith}
 use Rattle.std.proofs.lemmas.Bool.{eq-eqb, ne_eqb, lt-ltb, le-ltb, cond-true, cond-false, cases_order, cases_eq}
-use Rattle.std.specs.Option.{option_map}
+use Rattle.std.proofs.lemmas.Option.{none-some, same_Some}
 use Rattle.tree_math.specs.Index.{by_side, from_right, root_of, height_of, parent_of, left_of, right_of}
 use Rattle.tree_math.specs.Span.{span}
 use Rattle.tree_math.proofs.Span.{span-suc, span_pos}
@@ -114,19 +114,13 @@ pub from_right-some : (h c : ℕ) (o : Option ℕ) → from_right h o ≡ Some c
 from_right-some h c None e = let z : ◌≡◌ {A = ℕ} 0 1 = cc in absurd (omega arith)
 from_right-some h c (Some n) e = (n, refl, cc)
 
-pub some-injects : (a b : ℕ) → Some a ≡ Some b → a ≡ b
-some-injects a b e = cc
-
-pub none-some : (c : ℕ) → None ≡ Some c → ⊥
-none-some c e = let z : ◌≡◌ {A = ℕ} 0 1 = cc in omega arith
-
 -- what is answered stands in the tree
 pub left-within : (d i c : ℕ) → left_of d i ≡ Some c → c < span d
 left-within zero i c e = absurd (none-some c (sym (left-none i) ∙ e))
 left-within (suc h) i c e =
     elim (side (span h) i) [
       | before l ↦ omega (arith, span-suc h, left-within h i c (sym (left-before h i l) ∙ e))
-      | here q ↦ omega (arith, span-suc h, span_pos h, some-injects (root_of h) c (sym (left_here h i q) ∙ e))
+      | here q ↦ omega (arith, span-suc h, span_pos h, same_Some (root_of h) c (sym (left_here h i q) ∙ e))
       | behind j q ↦
           let w = from_right-some h c (left_of h (i - (span h + 1))) (sym (left_behind h i (omega arith)) ∙ e) in
           omega (arith, span-suc h, w.2, left-within h (i - (span h + 1)) w.0 w.1)
@@ -137,7 +131,7 @@ right-within zero i c e = absurd (none-some c (sym (right-none i) ∙ e))
 right-within (suc h) i c e =
     elim (side (span h) i) [
       | before l ↦ omega (arith, span-suc h, right-within h i c (sym (right-before h i l) ∙ e))
-      | here q ↦ omega (arith, span-suc h, span_pos h, some-injects (span h + 1 + root_of h) c (sym (right-here h i q) ∙ e))
+      | here q ↦ omega (arith, span-suc h, span_pos h, same_Some (span h + 1 + root_of h) c (sym (right-here h i q) ∙ e))
       | behind j q ↦
           let w = from_right-some h c (right_of h (i - (span h + 1))) (sym (right-behind h i (omega arith)) ∙ e) in
           omega (arith, span-suc h, w.2, right-within h (i - (span h + 1)) w.0 w.1)
@@ -149,105 +143,15 @@ parent-within (suc h) i c e =
     elim (side (span h) i) [
       | before l ↦
           elim (cases_eq i (root_of h)) [
-            | inl r ↦ omega (arith, span-suc h, some-injects (span h) c (sym (parent-before-root h i l r) ∙ e))
+            | inl r ↦ omega (arith, span-suc h, same_Some (span h) c (sym (parent-before-root h i l r) ∙ e))
             | inr ne ↦ omega (arith, span-suc h, parent-within h i c (sym (parent-before h i l ne) ∙ e))
           ]
       | here q ↦ absurd (none-some c (sym (parent-here h i q) ∙ e))
       | behind j q ↦
           elim (cases_eq (i - (span h + 1)) (root_of h)) [
-            | inl r ↦ omega (arith, span-suc h, some-injects (span h) c (sym (parent-behind-root h i (omega arith) r) ∙ e))
+            | inl r ↦ omega (arith, span-suc h, same_Some (span h) c (sym (parent-behind-root h i (omega arith) r) ∙ e))
             | inr ne ↦
                 let w = from_right-some h c (parent_of h (i - (span h + 1))) (sym (parent-behind h i (omega arith) ne) ∙ e) in
                 omega (arith, span-suc h, w.2, parent-within h (i - (span h + 1)) w.0 w.1)
           ]
     ]
-
--- The same as the code goes, in a part of height d with n nodes: the part below has height d - 1, and its middle is at n / 2.
-module _ {X : Type 0} (f : ℕ → ℕ → X) where
-  in_left : (h i : ℕ) → f (suc h - 1) i ≡ f h i
-  in_left h i = ap (λ (x : ℕ). f x i) (omega arith)
-
-  in_right : (h n i : ℕ) → n ≡ span (suc h) → f (suc h - 1) (i - (n / 2 + 1)) ≡ f h (i - (span h + 1))
-  in_right h n i is =
-      in_left h (i - (n / 2 + 1)) ∙ ap (λ (x : ℕ). f h x) (omega (arith, span-suc h))
-
--- an answer from the right part, as the code moves it
-moved :
-    (f : ℕ → ℕ → Option ℕ) (h n i : ℕ) (o : Option ℕ) → n ≡ span (suc h) → f (suc h - 1) (i - (n / 2 + 1)) ≡ o
-    → option_map (λ x. n / 2 + 1 + x) o ≡ from_right h (f h (i - (span h + 1)))
-moved f h n i o is e =
-    ap (λ (m : ℕ). option_map (λ x. m + 1 + x) o) (omega (arith, span-suc h)) ∙ ap (λ q. from_right h q) (sym e ∙ in_right f h n i is)
-
-pub height-at-middle : (d n i : ℕ) → n ≡ span d → i ≡ n / 2 → Some d ≡ height_of d i
-unfolding span
-height-at-middle zero n i is e = sym (ap (λ (x : ℕ). height_of 0 x) (omega arith) ∙ height-zero)
-height-at-middle (suc h) n i is e = sym (height-here h i (omega arith))
-
-pub height-at-leaf : (d n i : ℕ) → n ≡ span d → (i ≡ n / 2 → ⊥) → d ≡ 0 → None ≡ height_of d i
-unfolding span
-height-at-leaf zero n i is ne z = sym (height-none i (λ e. ne (omega arith)))
-height-at-leaf (suc h) n i is ne z = absurd (omega arith)
-
-pub height-at-left : (d n i : ℕ) → n ≡ span d → 0 < d → i < n / 2 → height_of (d - 1) i ≡ height_of d i
-height-at-left zero n i is p l = absurd (omega arith)
-height-at-left (suc h) n i is p l = in_left height_of h i ∙ sym (height-before h i (omega (arith, span-suc h)))
-
-pub height-at-right : (d n i : ℕ) → n ≡ span d → 0 < d → n / 2 < i → height_of (d - 1) (i - (n / 2 + 1)) ≡ height_of d i
-height-at-right zero n i is p g = absurd (omega arith)
-height-at-right (suc h) n i is p g = in_right height_of h n i is ∙ sym (height-behind h i (omega (arith, span-suc h)))
-
-pub left-at-leaf : (d i : ℕ) → d ≡ 0 → None ≡ left_of d i
-left-at-leaf d i z = sym (ap (λ (x : ℕ). left_of x i) z ∙ left-none i)
-
-pub left-at-middle : (d n i : ℕ) → n ≡ span d → 0 < d → i ≡ n / 2 → Some (n / 2 / 2) ≡ left_of d i
-left-at-middle zero n i is p e = absurd (omega arith)
-left-at-middle (suc h) n i is p e = ap Some (omega (arith, span-suc h)) ∙ sym (left_here h i (omega (arith, span-suc h)))
-
-pub left-at-left : (d n i : ℕ) → n ≡ span d → 0 < d → i < n / 2 → left_of (d - 1) i ≡ left_of d i
-left-at-left zero n i is p l = absurd (omega arith)
-left-at-left (suc h) n i is p l = in_left left_of h i ∙ sym (left-before h i (omega (arith, span-suc h)))
-
-pub left-at-right : (d n i : ℕ) (o : Option ℕ) → n ≡ span d → 0 < d → n / 2 < i → left_of (d - 1) (i - (n / 2 + 1)) ≡ o → option_map (λ x. n / 2 + 1 + x) o ≡ left_of d i
-left-at-right zero n i o is p g e = absurd (omega arith)
-left-at-right (suc h) n i o is p g e = moved left_of h n i o is e ∙ sym (left_behind h i (omega (arith, span-suc h)))
-
-pub right-at-leaf : (d i : ℕ) → d ≡ 0 → None ≡ right_of d i
-right-at-leaf d i z = sym (ap (λ (x : ℕ). right_of x i) z ∙ right-none i)
-
-pub right-at-middle : (d n i : ℕ) → n ≡ span d → 0 < d → i ≡ n / 2 → Some (n / 2 + 1 + n / 2 / 2) ≡ right_of d i
-right-at-middle zero n i is p e = absurd (omega arith)
-right-at-middle (suc h) n i is p e = ap Some (omega (arith, span-suc h)) ∙ sym (right-here h i (omega (arith, span-suc h)))
-
-pub right-at-left : (d n i : ℕ) → n ≡ span d → 0 < d → i < n / 2 → right_of (d - 1) i ≡ right_of d i
-right-at-left zero n i is p l = absurd (omega arith)
-right-at-left (suc h) n i is p l = in_left right_of h i ∙ sym (right-before h i (omega (arith, span-suc h)))
-
-pub right-at-right : (d n i : ℕ) (o : Option ℕ) → n ≡ span d → 0 < d → n / 2 < i → right_of (d - 1) (i - (n / 2 + 1)) ≡ o → option_map (λ x. n / 2 + 1 + x) o ≡ right_of d i
-right-at-right zero n i o is p g e = absurd (omega arith)
-right-at-right (suc h) n i o is p g e = moved right_of h n i o is e ∙ sym (right-behind h i (omega (arith, span-suc h)))
-
-pub parent-at-leaf : (d i : ℕ) → d ≡ 0 → None ≡ parent_of d i
-parent-at-leaf d i z = sym (ap (λ (x : ℕ). parent_of x i) z ∙ parent-none i)
-
-pub parent-at-middle : (d n i : ℕ) → n ≡ span d → 0 < d → i ≡ n / 2 → None ≡ parent_of d i
-parent-at-middle zero n i is p e = absurd (omega arith)
-parent-at-middle (suc h) n i is p e = sym (parent-here h i (omega (arith, span-suc h)))
-
-pub parent-at-left-root : (d n i : ℕ) → n ≡ span d → 0 < d → i < n / 2 → i ≡ n / 2 / 2 → Some (n / 2) ≡ parent_of d i
-parent-at-left-root zero n i is p l e = absurd (omega arith)
-parent-at-left-root (suc h) n i is p l e = ap Some (omega (arith, span-suc h)) ∙ sym (parent-before-root h i (omega (arith, span-suc h)) (omega (arith, span-suc h)))
-
-pub parent-at-left : (d n i : ℕ) → n ≡ span d → 0 < d → i < n / 2 → (i ≡ n / 2 / 2 → ⊥) → parent_of (d - 1) i ≡ parent_of d i
-parent-at-left zero n i is p l ne = absurd (omega arith)
-parent-at-left (suc h) n i is p l ne = in_left parent_of h i ∙ sym (parent-before h i (omega (arith, span-suc h)) (λ e. ne (omega (arith, span-suc h))))
-
-pub parent-at-right-root : (d n i : ℕ) → n ≡ span d → 0 < d → n / 2 < i → i - (n / 2 + 1) ≡ n / 2 / 2 → Some (n / 2) ≡ parent_of d i
-parent-at-right-root zero n i is p g e = absurd (omega arith)
-parent-at-right-root (suc h) n i is p g e = ap Some (omega (arith, span-suc h)) ∙ sym (parent-behind-root h i (omega (arith, span-suc h)) (omega (arith, span-suc h)))
-
-pub parent-at-right :
-    (d n i : ℕ) (o : Option ℕ) → n ≡ span d → 0 < d → n / 2 < i → (i - (n / 2 + 1) ≡ n / 2 / 2 → ⊥)
-    → parent_of (d - 1) (i - (n / 2 + 1)) ≡ o → option_map (λ x. n / 2 + 1 + x) o ≡ parent_of d i
-parent-at-right zero n i o is p g ne e = absurd (omega arith)
-parent-at-right (suc h) n i o is p g ne e =
-    moved parent_of h n i o is e ∙ sym (parent-behind h i (omega (arith, span-suc h)) (λ e. ne (omega (arith, span-suc h))))
