@@ -1,10 +1,8 @@
 -- One step of the walk from the top: what a function answers before the middle node, at it and behind it.
-use Rattle.std.proofs.Common.{◌≡◌, ℕ, zero, suc, ◌+◌, ◌-◌, ◌<◌, eqb, ltb, Some, None, Option, sym, refl, ◌∙◌, inl, inr, arith}
-use Rattle.std.proofs.lemmas.Bool.{eq-eqb, ne_eqb, lt-ltb, le-ltb, cond-true, cond-false, cases_order, cases_eq}
-use Rattle.std.proofs.lemmas.Option.{none-some, same_Some}
+use Rattle.std.proofs.Common.{◌≡◌, ℕ, suc, ◌+◌, ◌-◌, ◌<◌, eqb, ltb, Some, None, refl, ◌∙◌, inl, inr, arith}
+use Rattle.std.proofs.lemmas.Bool.{eq-eqb, ne_eqb, lt-ltb, le-ltb, cond-true, cond-false, cases_order}
 use Rattle.tree_math.specs.Index.{by_side, from_right, root_of, height_of, parent_of, left_of, right_of}
 use Rattle.tree_math.specs.Span.{span}
-use Rattle.tree_math.proofs.Span.{span-suc, span_pos}
 
 -- the three sides of a middle node; behind it, the index in the right part
 pub data Side (mid i : ℕ) : Type 0 where
@@ -108,50 +106,3 @@ module _ (h i : ℕ) where
 pub parent-none : (i : ℕ) → parent_of 0 i ≡ None
 unfolding parent_of
 parent-none i = refl
-
--- a place that is answered in the right part comes from one there
-pub from_right-some : (h c : ℕ) (o : Option ℕ) → from_right h o ≡ Some c → (n : ℕ) × (o ≡ Some n) × (c ≡ span h + 1 + n)
-from_right-some h c None e = let z : ◌≡◌ {A = ℕ} 0 1 = cc in absurd (omega arith)
-from_right-some h c (Some n) e = (n, refl, cc)
-
--- what is answered stands in the tree
-pub left-within : (d i c : ℕ) → left_of d i ≡ Some c → c < span d
-left-within zero i c e = absurd (none-some c (sym (left-none i) ∙ e))
-left-within (suc h) i c e =
-    elim (side (span h) i) [
-      | before l ↦ omega (arith, span-suc h, left-within h i c (sym (left-before h i l) ∙ e))
-      | here q ↦ omega (arith, span-suc h, span_pos h, same_Some (root_of h) c (sym (left_here h i q) ∙ e))
-      | behind j q ↦
-          let w = from_right-some h c (left_of h (i - (span h + 1))) (sym (left_behind h i (omega arith)) ∙ e) in
-          omega (arith, span-suc h, w.2, left-within h (i - (span h + 1)) w.0 w.1)
-    ]
-
-pub right-within : (d i c : ℕ) → right_of d i ≡ Some c → c < span d
-right-within zero i c e = absurd (none-some c (sym (right-none i) ∙ e))
-right-within (suc h) i c e =
-    elim (side (span h) i) [
-      | before l ↦ omega (arith, span-suc h, right-within h i c (sym (right-before h i l) ∙ e))
-      | here q ↦ omega (arith, span-suc h, span_pos h, same_Some (span h + 1 + root_of h) c (sym (right-here h i q) ∙ e))
-      | behind j q ↦
-          let w = from_right-some h c (right_of h (i - (span h + 1))) (sym (right-behind h i (omega arith)) ∙ e) in
-          omega (arith, span-suc h, w.2, right-within h (i - (span h + 1)) w.0 w.1)
-    ]
-
-pub parent-within : (d i c : ℕ) → parent_of d i ≡ Some c → c < span d
-parent-within zero i c e = absurd (none-some c (sym (parent-none i) ∙ e))
-parent-within (suc h) i c e =
-    elim (side (span h) i) [
-      | before l ↦
-          elim (cases_eq i (root_of h)) [
-            | inl r ↦ omega (arith, span-suc h, same_Some (span h) c (sym (parent-before-root h i l r) ∙ e))
-            | inr ne ↦ omega (arith, span-suc h, parent-within h i c (sym (parent-before h i l ne) ∙ e))
-          ]
-      | here q ↦ absurd (none-some c (sym (parent-here h i q) ∙ e))
-      | behind j q ↦
-          elim (cases_eq (i - (span h + 1)) (root_of h)) [
-            | inl r ↦ omega (arith, span-suc h, same_Some (span h) c (sym (parent-behind-root h i (omega arith) r) ∙ e))
-            | inr ne ↦
-                let w = from_right-some h c (parent_of h (i - (span h + 1))) (sym (parent-behind h i (omega arith) ne) ∙ e) in
-                omega (arith, span-suc h, w.2, parent-within h (i - (span h + 1)) w.0 w.1)
-          ]
-    ]
