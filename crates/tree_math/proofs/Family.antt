@@ -126,55 +126,58 @@ up-behind d i j t q up =
     let inner : parent_of d (i - (span d + 1)) ≡ Some t = ap (λ (x : ℕ). parent_of d x) (omega arith) ∙ up in
     steps.parent-behind d i (omega arith) (not_root d t (i - (span d + 1)) inner) ∙ ap (λ o. from_right d o) inner
 
--- the parent of both children of the k-th node of a row
-parents : (e d h k : ℕ) → d ≡ suc h + e → k < 2 ^ e →
-    (parent_of d (node_over h (2 * k)) ≡ Some (node_over (suc h) k)) × (parent_of d (node_over h (2 * k + 1)) ≡ Some (node_over (suc h) k))
-parents e zero h k q l = absurd (omega arith)
-parents zero (suc d) h k q l =
+-- the parent of the n-th node of a row: the k-th of the row above, for n = 2 k and n = 2 k + 1
+parents : (e d h k n : ℕ) → d ≡ suc h + e → k < 2 ^ e → 2 * k ≤ n → n ≤ 2 * k + 1 → parent_of d (node_over h n) ≡ Some (node_over (suc h) k)
+parents e zero h k n q l a b = absurd (omega arith)
+parents zero (suc d) h k n q l a b =
     let first : k ≡ 0 = omega arith in
     let same : d ≡ h = omega arith in
     let none = ap (λ (x : ℕ). x * 2 ^ h) first in
     let wide = ap (λ (x : ℕ). 2 ^ x) same in
-    let top : span d ≡ node_over (suc h) k = omega (arith, span-double d, none, wide, twice h k, pow-suc 2 h) in (
-      steps.parent-before-root d (node_over h (2 * k)) (omega (arith, span-double d, none, wide, pow_pos h)) (omega (arith, span-double d, none, wide)) ∙ ap Some top,
-      steps.parent-behind-root d (node_over h (2 * k + 1)) (omega (arith, span-double d, none, wide, pow_pos h)) (omega (arith, span-double d, none, wide)) ∙ ap Some top,
-    )
-parents (suc e) (suc d) h k q l =
+    let top : span d ≡ node_over (suc h) k = omega (arith, span-double d, none, wide, twice h k, pow-suc 2 h) in
+    elim (cases_eq n 0) [
+      | inl z ↦
+          let at = ap (λ (x : ℕ). x * 2 ^ h) z in
+          steps.parent-before-root d (node_over h n) (omega (arith, span-double d, at, wide, pow_pos h)) (omega (arith, span-double d, at, wide)) ∙ ap Some top
+      | inr z ↦
+          let second : n ≡ 1 = omega arith in
+          let at = ap (λ (x : ℕ). x * 2 ^ h) second in
+          steps.parent-behind-root d (node_over h n) (omega (arith, span-double d, at, wide, pow_pos h)) (omega (arith, span-double d, at, wide)) ∙ ap Some top
+    ]
+parents (suc e) (suc d) h k n q l a b =
     let wide = parts-leaves d (suc h) e (omega arith) in
     elim (cases_lt k (2 ^ e)) [
       | inl low ↦
-          let up = parents e d h k (omega arith) low in
-          let room : suc k * 2 ^ suc h ≤ 2 ^ e * 2 ^ suc h = mul-le-mul_right (2 ^ suc h) low in (
-            up-before d (node_over h (2 * k)) (node_over (suc h) k) (omega (arith, room, wide, span-double d, twice h k, pow-suc 2 h, pow_pos h)) up.0,
-            up-before d (node_over h (2 * k + 1)) (node_over (suc h) k) (omega (arith, room, wide, span-double d, twice h k, pow-suc 2 h, pow_pos h)) up.1,
-          )
+          let room : suc k * 2 ^ suc h ≤ 2 ^ e * 2 ^ suc h = mul-le-mul_right (2 ^ suc h) low in
+          let most : n * 2 ^ h ≤ (2 * k + 1) * 2 ^ h = mul-le-mul_right (2 ^ h) b in
+          up-before d (node_over h n) (node_over (suc h) k) (omega (arith, room, most, wide, span-double d, twice h k, pow-suc 2 h, pow_pos h))
+          (parents e d h k n (omega arith) low a b)
       | inr high ↦
           let j : ℕ = k - 2 ^ e in
-          let up = parents e d h j (omega arith) (omega arith) in
+          let m : ℕ = n - 2 * 2 ^ e in
           let split : k ≡ 2 ^ e + j = omega arith in
+          let cut : n ≡ 2 * 2 ^ e + m = omega arith in
           let at = ap (λ (x : ℕ). x * 2 ^ h) split in
-          let over : span d + 1 + node_over (suc h) j ≡ node_over (suc h) k = omega (arith, at, wide, span-double d, twice h k, twice h j, twice h (2 ^ e), pow_pos h, pow-suc 2 h) in (
-            up-behind d (node_over h (2 * k)) (node_over h (2 * j)) (node_over (suc h) j) (omega (arith, at, wide, span-double d, twice h (2 ^ e), pow_pos h)) up.0 ∙ ap Some over,
-            up-behind d (node_over h (2 * k + 1)) (node_over h (2 * j + 1)) (node_over (suc h) j) (omega (arith, at, wide, span-double d, twice h (2 ^ e), pow_pos h)) up.1 ∙ ap Some over,
-          )
+          let from = ap (λ (x : ℕ). x * 2 ^ h) cut in
+          up-behind d (node_over h n) (node_over h m) (node_over (suc h) j) (omega (arith, from, wide, span-double d, twice h (2 ^ e), pow_pos h))
+          (parents e d h j m (omega arith) (omega arith) (omega arith) (omega arith))
+          ∙ ap Some (omega (arith, at, wide, span-double d, twice h k, twice h j, twice h (2 ^ e), pow_pos h, pow-suc 2 h))
     ]
 
-parents-at : (d h k : ℕ) → suc h ≤ d → k < 2 ^ (d - suc h) →
-    (parent_of d (node_over h (2 * k)) ≡ Some (node_over (suc h) k)) × (parent_of d (node_over h (2 * k + 1)) ≡ Some (node_over (suc h) k))
-parents-at d h k l m = parents (d - suc h) d h k (omega arith) m
+parent-number : (d h k n : ℕ) → suc h ≤ d → k < 2 ^ (d - suc h) → 2 * k ≤ n → n ≤ 2 * k + 1 → parent_of d (node_over h n) ≡ Some (node_over (suc h) k)
+parent-number d h k n l m = parents (d - suc h) d h k n (omega arith) m
 
--- a child's parent is the node
-numbered-children : (d h k c : ℕ) → h ≤ d → k < 2 ^ (d - h) →
+-- the parent of a node's child is the node
+parent-of-numbered : (d h k c : ℕ) → h ≤ d → k < 2 ^ (d - h) →
     (left_of d (node_over h k) ≡ Some c → parent_of d c ≡ Some (node_over h k)) × (right_of d (node_over h k) ≡ Some c → parent_of d c ≡ Some (node_over h k))
-numbered-children d zero k c l m =
+parent-of-numbered d zero k c l m =
     let none = childless-leaves d (node_over 0 k) (numbering.0 d 0 k l m) in
     ((λ e. absurd (none-some c (sym none.0 ∙ e))), (λ e. absurd (none-some c (sym none.1 ∙ e))))
-numbered-children d (suc h) k c l m =
+parent-of-numbered d (suc h) k c l m =
     let i : ℕ = node_over (suc h) k in
-    let down = child-heights d i h (numbering.0 d (suc h) k l m) in
-    let up = parents-at d h k l m in (
-      (λ e. ap (λ (x : ℕ). parent_of d x) (same_Some c (i - 2 ^ h) (sym e ∙ down.0) ∙ left-number h k) ∙ up.0),
-      (λ e. ap (λ (x : ℕ). parent_of d x) (same_Some c (i + 2 ^ h) (sym e ∙ down.1) ∙ right-number h k) ∙ up.1),
+    let down = child-heights d i h (numbering.0 d (suc h) k l m) in (
+      (λ e. ap (λ (x : ℕ). parent_of d x) (same_Some c (i - 2 ^ h) (sym e ∙ down.0) ∙ left-number h k) ∙ parent-number d h k (2 * k) l m (omega arith) (omega arith)),
+      (λ e. ap (λ (x : ℕ). parent_of d x) (same_Some c (i + 2 ^ h) (sym e ∙ down.1) ∙ right-number h k) ∙ parent-number d h k (2 * k + 1) l m (omega arith) (omega arith)),
     )
 
 pub parent-of-children : ParentOfChildren
@@ -182,62 +185,50 @@ parent-of-children d i c =
     elim (cases_lt i (span d)) [
       | inl l ↦
           let r = numbering.1 d i l in
-          subst (λ (x : ℕ). (left_of d x ≡ Some c → parent_of d c ≡ Some x) × (right_of d x ≡ Some c → parent_of d c ≡ Some x)) (sym r.5) (numbered-children d r.0 r.1 c r.2 r.3)
+          subst (λ (x : ℕ). (left_of d x ≡ Some c → parent_of d c ≡ Some x) × (right_of d x ≡ Some c → parent_of d c ≡ Some x)) (sym r.5) (parent-of-numbered d r.0 r.1 c r.2 r.3)
       | inr g ↦
           let none = outside d i g in
           ((λ e. absurd (none-some c (sym none.2 ∙ e))), (λ e. absurd (none-some c (sym none.3 ∙ e))))
     ]
 
--- each node but the root is one of the two children of a node
-child-or-root : (d i : ℕ) → i < span d →
-    (i ≡ root_of d) ⊎ ((h : ℕ) × (k : ℕ) × (suc h ≤ d) × (k < 2 ^ (d - suc h)) × ((i ≡ node_over h (2 * k)) ⊎ (i ≡ node_over h (2 * k + 1))))
-child-or-root d i l =
+-- a node is the root, or in a row that has one above it
+root-or-below : (d i : ℕ) → i < span d →
+    (i ≡ root_of d) ⊎ ((h : ℕ) × (n : ℕ) × (suc h ≤ d) × (n / 2 < 2 ^ (d - suc h)) × (i ≡ node_over h n) × (parent_of d i ≡ Some (node_over (suc h) (n / 2))))
+root-or-below d i l =
     let r = numbering.1 d i l in
     elim (cases_lt r.0 d) [
       | inl b ↦
-          inr (
-            r.0,
-            r.1 / 2,
-            b,
-            omega (arith, r.3, row d r.0 b),
-            elim (cases_eq (r.1 % 2) 0) [
-              | inl z ↦ inl (r.5 ∙ ap (λ (x : ℕ). node_over r.0 x) (omega arith))
-              | inr z ↦ inr (r.5 ∙ ap (λ (x : ℕ). node_over r.0 x) (omega arith))
-            ],
-          )
+          let half : r.1 / 2 < 2 ^ (d - suc r.0) = omega (arith, r.3, row d r.0 b) in
+          inr (r.0, r.1, b, half, r.5, ap (λ (x : ℕ). parent_of d x) r.5 ∙ parent-number d r.0 (r.1 / 2) r.1 b half (omega arith) (omega arith))
       | inr g ↦
           let same : d ≡ r.0 = omega arith in
           let top : d - r.0 ≡ 0 = omega arith in
-          let one : 2 ^ (d - r.0) ≡ 1 = ap (λ (x : ℕ). 2 ^ x) top in
-          let first : r.1 ≡ 0 = omega (arith, one, r.3) in
+          let first : r.1 ≡ 0 = omega (arith, r.3, ap (λ (x : ℕ). 2 ^ x) top) in
           inl (omega (arith, r.5, span-double d, ap (λ (x : ℕ). x * 2 ^ r.0) first, ap (λ (x : ℕ). 2 ^ x) same, pow_pos r.0))
     ]
 
 only-root : (d i : ℕ) → i < span d → parent_of d i ≡ None → i ≡ root_of d
 only-root d i l e =
-    elim (child-or-root d i l) [
-      | inl r ↦ r
-      | inr (h, k, b, m, inl q) ↦ absurd (none-some (node_over (suc h) k) (sym e ∙ ap (λ (x : ℕ). parent_of d x) q ∙ (parents-at d h k b m).0))
-      | inr (h, k, b, m, inr q) ↦ absurd (none-some (node_over (suc h) k) (sym e ∙ ap (λ (x : ℕ). parent_of d x) q ∙ (parents-at d h k b m).1))
-    ]
+    elim (root-or-below d i l) [ inl r ↦ r | inr (h, n, b, m, q, up) ↦ absurd (none-some (node_over (suc h) (n / 2)) (sym e ∙ up)) ]
 
 pub root-has-no-parent : RootHasNoParent
 root-has-no-parent d = (height-root d, root-parent d, only-root d)
 
+-- a node is a child of its parent
 pub children-of-parent : ChildrenOfParent
 children-of-parent d i c e =
     elim (cases_lt c (span d)) [
       | inr g ↦ absurd (none-some i (sym (outside d c g).1 ∙ e))
       | inl l ↦
-          elim (child-or-root d c l) [
+          elim (root-or-below d c l) [
             | inl r ↦ absurd (not_root d i c e r)
-            | inr (h, k, b, m, inl q) ↦
-                let at : i ≡ node_over (suc h) k = same_Some i (node_over (suc h) k) (sym e ∙ ap (λ (x : ℕ). parent_of d x) q ∙ (parents-at d h k b m).0) in
+            | inr (h, n, b, m, q, up) ↦
+                let k : ℕ = n / 2 in
+                let at : i ≡ node_over (suc h) k = same_Some i (node_over (suc h) k) (sym e ∙ up) in
                 let down = child-heights d (node_over (suc h) k) h (numbering.0 d (suc h) k b m) in
-                inl (ap (λ (x : ℕ). left_of d x) at ∙ down.0 ∙ ap Some (left-number h k ∙ sym q))
-            | inr (h, k, b, m, inr q) ↦
-                let at : i ≡ node_over (suc h) k = same_Some i (node_over (suc h) k) (sym e ∙ ap (λ (x : ℕ). parent_of d x) q ∙ (parents-at d h k b m).1) in
-                let down = child-heights d (node_over (suc h) k) h (numbering.0 d (suc h) k b m) in
-                inr (ap (λ (x : ℕ). right_of d x) at ∙ down.1 ∙ ap Some (right-number h k ∙ sym q))
+                elim (cases_eq (n % 2) 0) [
+                  | inl z ↦ inl (ap (λ (x : ℕ). left_of d x) at ∙ down.0 ∙ ap Some (left-number h k ∙ ap (λ (x : ℕ). node_over h x) (omega arith) ∙ sym q))
+                  | inr z ↦ inr (ap (λ (x : ℕ). right_of d x) at ∙ down.1 ∙ ap Some (right-number h k ∙ ap (λ (x : ℕ). node_over h x) (omega arith) ∙ sym q))
+                ]
           ]
     ]

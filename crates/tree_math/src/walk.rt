@@ -1,4 +1,4 @@
-// The nodes around a node, found by a walk from the top of the tree.
+// The nodes around a node, found by a walk from the top of the tree, as the numbering is defined.
 #![tactic(auto, using(crate::proofs::Places::walks))]
 
 ghost use Rattle.std.specs.Prelude.{◌≡◌, ◌+◌, ◌^◌, ◌<◌, ◌≤◌, ◌⊎◌, Some, IfSome};
@@ -62,7 +62,7 @@ pub fn leaf(depth: usize, leaf: LeafIndex) -> Option<NodeIndex>
     (index < node_count(depth)?).then_some(NodeIndex(index))
 }
 
-// Where the walk stands: a node of a tree, with what the way down to it told.
+// A node as the walk meets it, with its height and the node above it.
 #[derive(Clone, Copy)]
 struct Place {
     depth: usize,
@@ -87,7 +87,7 @@ impl Place {
         })
     }
 
-    // The nodes below it, as far before and behind it as half of its part is wide; a leaf has none.
+    // Its children, 2 ^ (height - 1) places before and behind it; a leaf has none.
     fn children(self) -> Option<(Place, Place)>
         ensures left { left_of self.depth self.node.0 ≡ option_map (λ both. both.0.node.0) result }
         ensures right { right_of self.depth self.node.0 ≡ option_map (λ both. both.1.node.0) result }
