@@ -1,9 +1,9 @@
 -- Which leaves a node stands over.
-use Rattle.std.proofs.Common.{◌≡◌, ℕ, zero, suc, ◌+◌, ◌-◌, ◌*◌, ◌^◌, ◌≤◌, Some, ap, ◌∙◌, pow-suc, arith, pow_pos}
+use Rattle.std.proofs.Common.{◌≡◌, ℕ, zero, suc, ◌+◌, ◌*◌, Some, ap, ◌∙◌, arith, pow_pos}
 use Rattle.tree_math.specs.Index.{left_of, right_of}
 use Rattle.tree_math.specs.Laws.{node_over, onward, leftmost, rightmost, Covers}
 use Rattle.tree_math.proofs.Numbering.{numbering}
-use Rattle.tree_math.proofs.Family.{child-heights}
+use Rattle.tree_math.proofs.Family.{child-heights, left-number, right-number, row, twice}
 
 -- one step down
 left_step : (d n i c : ℕ) → left_of d i ≡ Some c → leftmost d (suc n) i ≡ leftmost d n c
@@ -13,23 +13,6 @@ left_step d n i c e = ap (λ o. onward o (leftmost d n)) e
 right-step : (d n i c : ℕ) → right_of d i ≡ Some c → rightmost d (suc n) i ≡ rightmost d n c
 unfolding rightmost
 right-step d n i c e = ap (λ o. onward o (rightmost d n)) e
-
-twice : (h k : ℕ) → k * 2 ^ suc h ≡ k * (2 ^ h * 2)
-twice h k = ap (λ (x : ℕ). k * x) (pow-suc 2 h)
-
--- the children, by their numbers in their row
-left-number : (h k : ℕ) → node_over (suc h) k - 2 ^ h ≡ node_over h (2 * k)
-left-number h k = omega (arith, pow_pos h, twice h k)
-
-right-number : (h k : ℕ) → node_over (suc h) k + 2 ^ h ≡ node_over h (2 * k + 1)
-right-number h k = omega (arith, pow_pos h, twice h k)
-
--- a row has twice as many nodes as the one above it
-row : (d h : ℕ) → suc h ≤ d → 2 ^ (d - h) ≡ 2 * 2 ^ (d - suc h)
-row d h l =
-    let lower : d - h ≡ suc (d - suc h) = omega arith in
-    let pows : 2 ^ (d - h) ≡ 2 ^ suc (d - suc h) = ap (λ (x : ℕ). 2 ^ x) lower in
-    omega (arith, pows, pow-suc 2 (d - suc h))
 
 pub covers : Covers
 unfolding leftmost rightmost

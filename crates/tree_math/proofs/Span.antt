@@ -1,7 +1,7 @@
 -- What a line of `span (suc h)` nodes is made of: the left part, the middle node, the right part.
 -- `span-*`: numbers; `left-*`, `right-*`, `split-nodes`: the parts; `built-*`: a line put together;
 -- `middle-set-*`, `left-write-*`, `right-write-*`, `all-written`: what a write leaves.
-use Rattle.std.proofs.Common.{◌≡◌, ℕ, zero, suc, ◌+◌, ◌-◌, ◌*◌, ◌/◌, ◌^◌, ◌<◌, ◌≤◌, List, [], ◌∷◌, ◌++◌, length, get_or, take, drop, set, sym, refl, ap, ◌∙◌, suc-add, pow-suc, add-one, arith, pow_mono}
+use Rattle.std.proofs.Common.{◌≡◌, ℕ, zero, suc, ◌+◌, ◌*◌, ◌^◌, ◌<◌, ◌≤◌, List, [], ◌∷◌, ◌++◌, length, get_or, take, drop, set, sym, refl, ap, ◌∙◌, suc-add, pow-suc, add-one, arith, pow_mono}
 use borrow.Rule.Slice.PartMut.{put_mid}
 use Rattle.std.proofs.lemmas.List.{take_at, drop_at, get_or_at, set_split, set_at, take-append-drop, drop_more, length-take-le, length-drop, length-append, take-set, drop-set-lt, get_or-set_same, length-set, take_more, append_assoc, append-nil, drop_all, drop-drop}
 use Rattle.std.proofs.lemmas.Slice.{drop-append-drop, take-put_mid_below}
@@ -37,11 +37,6 @@ pub span-bound : (d : ℕ) → d ≤ 10 → span d ≤ 2047
 span-bound d l =
     let m : d + 1 ≤ 11 = omega arith in
     omega (arith, span-pow d, pow_mono m)
-
--- the nodes of each of the two parts of a tree of height d
-pub half-nodes : (d n : ℕ) → n ≡ span d → 0 < d → n / 2 ≡ span (d - 1)
-half-nodes zero n e p = absurd (omega arith)
-half-nodes (suc h) n e p = let q : suc h - 1 ≡ h = omega arith in omega (arith, span-suc h, ap span q)
 
 -- a line put together of a left part, a node and a right part
 module _ {A : Type 0} (h : ℕ) (l : List A) (x : A) (r : List A) (is : length l ≡ span h) where

@@ -4,9 +4,9 @@
 pub const MAX_DEPTH: usize = 10;
 
 // A place in the line of all nodes: leaves at the even places, parents between them.
-#[derive(Clone, Copy, PartialEq, Eq, Debug)]
+#[derive(Clone, Copy, PartialEq, Eq, PartialOrd, Ord, Hash, Debug)]
 pub struct NodeIndex(pub usize);
 
 // A place in the line of leaves.
-#[derive(Clone, Copy, PartialEq, Eq, Debug)]
+#[derive(Clone, Copy, PartialEq, Eq, PartialOrd, Ord, Hash, Debug)]
 pub struct LeafIndex(pub usize);

@@ -6,7 +6,7 @@ mod index;
 mod laws;
 mod walk;
 
-pub use halves::{left_half, right_half};
+pub use halves::{halves_mut, left_half, right_half};
 pub use index::{LeafIndex, MAX_DEPTH, NodeIndex};
 pub use laws::{
     child_heights_hold, childless_leaves_hold, children_of_parent_hold, covers_holds,
