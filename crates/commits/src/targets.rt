@@ -27,7 +27,7 @@ fn push_sealed(keys: &[PublicKey], level: usize, out: &mut Vec<Target>) -> Resul
 
 // Seals to the other side of the path; answers the level above.
 fn seal_to(
-    heap: Global,
+    alloc: Global,
     other: Part,
     level: usize,
     out: &mut Vec<Target>,
@@ -35,7 +35,7 @@ fn seal_to(
     requires { level ≤ max_depth }
     ensures { SealsOther level (part_tree other.entry) out.old.items out.new.items result }
 {
-    let keys = other.resolution(heap)?;
+    let keys = other.resolution(alloc)?;
     push_sealed(&keys, level, out)?;
     if keys.is_empty() {
         Ok(level)
@@ -46,7 +46,7 @@ fn seal_to(
 
 // Seals along the path in a part; answers how many levels it has.
 fn push_targets(
-    heap: Global,
+    alloc: Global,
     part: Part,
     member: MemberId,
     out: &mut Vec<Target>,
@@ -57,12 +57,12 @@ fn push_targets(
         Split::Leaf(_) => Ok(0),
         Split::Parent(left, _, right) => {
             if left.is_seated(member) {
-                let level = push_targets(heap, left, member, out)?;
-                return seal_to(heap, right, level, out);
+                let level = push_targets(alloc, left, member, out)?;
+                return seal_to(alloc, right, level, out);
             }
             if right.is_seated(member) {
-                let level = push_targets(heap, right, member, out)?;
-                return seal_to(heap, left, level, out);
+                let level = push_targets(alloc, right, member, out)?;
+                return seal_to(alloc, left, level, out);
             }
             Ok(0)
         }
@@ -71,13 +71,13 @@ fn push_targets(
 
 // The targets of the committer's path in a part, from below.
 pub fn path_targets(
-    heap: Global,
+    alloc: Global,
     part: Part,
     committer: MemberId,
 ) -> Result<Vec<Target>, AllocError>
     ensures value { IfOk result (λ v. Targets committer.0 (part_tree part.entry) v.items) }
 {
-    let mut targets = Vec::new(heap);
-    push_targets(heap, part, committer, &mut targets)?;
+    let mut targets = Vec::new(alloc);
+    push_targets(alloc, part, committer, &mut targets)?;
     Ok(targets)
 }
