@@ -6,7 +6,7 @@ ghost use Rattle.ratchet_tree.specs.Keys.{Appends};
 ghost use Rattle.ratchet_tree.specs.Parts.{part_tree};
 ghost use Rattle.commits.specs.Targets.{SealsOther, SealsPath, Targets, target_of};
 
-use ratchet_tree::{MemberId, Part, PublicKey, Split};
+use ratchet_tree::{MemberId, Part, PublicKey, Sides, Split};
 use std::alloc::{AllocError, Global};
 
 // A key that is sealed to, and the level of the path secret that it is given.
@@ -19,10 +19,7 @@ pub struct Target {
 fn push_sealed(keys: &[PublicKey], level: usize, out: &mut Vec<Target>) -> Result<(), AllocError>
     ensures { Appends (map target_of out.old.items) (sealed_to level keys.now) (map target_of out.new.items) result }
 {
-    for key in keys {
-        out.push(Target { key: *key, level })?;
-    }
-    Ok(())
+    out.extend(keys.iter().map(|key| Target { key: *key, level }))
 }
 
 // Seals to the other side of the path; answers the level above.
@@ -55,17 +52,13 @@ fn push_targets(
 {
     match part.split() {
         Split::Leaf(_) => Ok(0),
-        Split::Parent(left, _, right) => {
-            if left.is_seated(member) {
-                let level = push_targets(alloc, left, member, out)?;
-                return seal_to(alloc, right, level, out);
+        Split::Parent(left, _, right) => match Sides::of(left, right, member) {
+            Some(sides) => {
+                let level = push_targets(alloc, sides.own, member, out)?;
+                seal_to(alloc, sides.other, level, out)
             }
-            if right.is_seated(member) {
-                let level = push_targets(alloc, right, member, out)?;
-                return seal_to(alloc, left, level, out);
-            }
-            Ok(0)
-        }
+            None => Ok(0),
+        },
     }
 }
 
