@@ -1,23 +1,21 @@
 -- Counting a path: sums that stop at the largest number, and the node keys and boxes of one parent more.
 -- Assumes nothing.
-use Rattle.std.proofs.Common.{◌≡◌, ℕ, zero, suc, ◌+◌, ◌≤◌, Bool, true, false, cond, not, ◌||◌, List, [], ◌∷◌, ◌++◌, length, take, drop, sym, refl, ap, ◌∙◌, subst, arith, append_assoc, length-append}
+use Rattle.std.proofs.Common.{◌≡◌, ℕ, zero, suc, ◌+◌, ◌≤◌, Bool, true, false, cond, not, ◌||◌, List, [], ◌∷◌, ◌++◌, length, sym, refl, ap, ◌∙◌, subst, arith, append_assoc, length-append}
 use Rattle.std.proofs.lemmas.List.{append-nil}
 use Rattle.std.specs.List.{fold}
 use lib.ListN.{length-map}
 use mir.Val.{bool_byte}
-use Rattle.theory.proofs.Tests.{by_cond}
 use Rattle.theory.specs.Limits.{max_depth}
 use Rattle.theory.specs.Path.{Laid, laid, level_after, climbed, sealed_to}
 use Rattle.theory.specs.Tree.{Tree, leaf, node, Leaf, blank_leaf, occupied, Parent, is_at, is_blank, key_at, seated, leaf_key, leaf_keys, resolution}
-use Rattle.tree_math.specs.Span.{span}
-use Rattle.ratchet_tree.specs.Nodes.{numbers, tree_of}
+use Rattle.ratchet_tree.specs.Nodes.{numbers}
 use Rattle.ratchet_tree.specs.Parts.{part_tree}
 use Rattle.ratchet_tree.specs.declared.member.MemberId.{MemberId}
 use Rattle.ratchet_tree.specs.declared.member.PublicKey.{PublicKey}
-use Rattle.ratchet_tree.specs.declared.node.Node.{Node}
 use Rattle.ratchet_tree.specs.declared.part.Part.{Part}
 use Rattle.commits.specs.Counts.{capped, next_level, Counted, CountsOf}
 use Rattle.commits.specs.declared.count.Counts.{Counts}
+pub use Rattle.commits.proofs.Laying.{levels-bound}
 use Rattle.commits.proofs.Laying.{laid-side, laid-neither, put-back}
 
 -- a test as a number: the key that is there or isn't
@@ -55,19 +53,6 @@ members-count t (m ∷ ms) ks n e =
 level-more : {K : Type 0} (i : ℕ) (ks : List K) → level_after i ks ≤ suc i
 level-more i [] = omega arith
 level-more i (k ∷ ks) = omega arith
-
--- a path has at most as many node keys as there are parents above its leaf
-pub levels-bound : (m : ℕ) (own : PublicKey) (keys : ℕ → PublicKey) (h : ℕ) (ns : List Node) → (laid m own keys (tree_of h ns)).levels ≤ h
-unfolding tree_of laid
-levels-bound m own keys zero ns = omega arith
-levels-bound m own keys (suc h) ns =
-    let l : List Node = take (span h) ns in
-    let r : List Node = drop (span h + 1) ns in
-    by_cond (λ (x : Laid PublicKey). x.levels ≤ suc h) (seated m (tree_of h l)) _ _
-    (λ _. omega (arith, levels-bound m own keys h l, level-more (laid m own keys (tree_of h l)).levels (resolution (tree_of h r))))
-    (λ _. by_cond (λ (x : Laid PublicKey). x.levels ≤ suc h) (seated m (tree_of h r)) _ _
-    (λ _. omega (arith, levels-bound m own keys h r, level-more (laid m own keys (tree_of h r)).levels (resolution (tree_of h l))))
-    (λ _. omega arith))
 
 -- whether there are keys on the other side can be told from their capped number
 next_level-agrees : {K : Type 0} (i n : ℕ) (ks : List K) → n ≡ capped (length ks) → next_level i n ≡ level_after i ks
