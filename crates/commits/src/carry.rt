@@ -119,10 +119,9 @@ pub fn message_counts(readied: &RatchetTree, commit: Commit) -> Counts
     ensures value { MessageCounts (commit_of commit) (the_tree readied.now) result }
 {
     let path = path_counts(readied.as_part(), commit.committer);
-    let boxes = path.boxes.saturating_add(commit.change.welcomes());
     Counts {
-        node_keys: path.node_keys,
-        boxes,
+        boxes: path.boxes.saturating_add(commit.change.welcomes()),
+        ..path
     }
 }
 

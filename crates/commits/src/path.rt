@@ -94,7 +94,9 @@ fn lay_parent(alloc: Global, node: &mut Node, key: Option<PublicKey>)
     });
 }
 
-// Lays the path in a part; answers how many node keys that took.
+// Lays the path in a part; answers how many node keys that took. The nodes and their height are two parameters: a
+// struct of both that is written through gets no proof by value, and behind a `&mut` each call would also have to
+// promise that it still lends the same nodes.
 fn lay_in(
     alloc: Global,
     nodes: &mut [Node],
