@@ -3,3 +3,4 @@ pub mod Laying
 pub mod Sealing
 pub mod Crowding
 pub mod Counting
+pub mod Halving

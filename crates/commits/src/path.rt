@@ -1,5 +1,5 @@
 // The committer's path: a new leaf key, and node keys from its leaf to the top.
-ghost use Rattle.std.specs.Prelude.{◌≡◌, ◌≤◌, not, [], length, if◌then◌else◌};
+ghost use Rattle.std.specs.Prelude.{◌≡◌, ◌≤◌, not, [], length, if◌then◌else◌, MatchOption};
 ghost use Rattle.theory.specs.Limits.{max_depth};
 ghost use Rattle.theory.specs.Path.{laid};
 ghost use Rattle.theory.specs.Tree.{blank_parent, is_at, keyed, occupied, resolution};
@@ -7,11 +7,11 @@ ghost use Rattle.tree_math.specs.Span.{span};
 ghost use Rattle.ratchet_tree.specs.Nodes.{leaf_of, parent_of, tree_of};
 ghost use Rattle.ratchet_tree.specs.Parts.{part_tree};
 ghost use Rattle.ratchet_tree.specs.Trees.{the_tree};
-ghost use Rattle.commits.specs.Path.{is_none, key_from};
+ghost use Rattle.commits.specs.Path.{IsOwnHalf, is_none, key_from};
 
 use ratchet_tree::{Leaf, MemberId, Node, Parent, Part, PublicKey, RatchetTree, Split};
 use std::alloc::Global;
-use tree_math::{left_half, right_half};
+use std::ops::Range;
 
 // The public halves that a committer brings: its new leaf key, and the node keys from below.
 #[derive(Clone, Copy)]
@@ -27,9 +27,39 @@ fn is_reached(part: Part) -> bool
     match part.split() {
         Split::Leaf(node) => node.is_occupied(),
         Split::Parent(left, node, right) => {
-            match node.node_key() {
-                Some(_) => true,
-                None => is_reached(left) || is_reached(right),
+            node.node_key().is_some() || is_reached(left) || is_reached(right)
+        }
+    }
+}
+
+// The half of a part that the committer sits in: where it stands, and whether there is anybody in the other half to
+// seal to.
+#[derive(Drop)]
+struct OwnHalf {
+    nodes: Range<usize>,
+    reached: bool,
+}
+
+// None where the committer sits in neither half.
+fn own_half(part: Part, committer: MemberId) -> Option<OwnHalf>
+    ensures { IsOwnHalf committer.0 part.entry.height part.entry.nodes.now result }
+{
+    let middle = part.nodes.len() / 2;
+    match part.split() {
+        Split::Leaf(_) => None,
+        Split::Parent(left, _, right) => {
+            if left.is_seated(committer) {
+                Some(OwnHalf {
+                    nodes: 0..middle,
+                    reached: is_reached(right),
+                })
+            } else if right.is_seated(committer) {
+                Some(OwnHalf {
+                    nodes: middle + 1..part.nodes.len(),
+                    reached: is_reached(left),
+                })
+            } else {
+                None
             }
         }
     }
@@ -48,31 +78,27 @@ fn renew_leaf(node: &mut Node, member: MemberId, key: PublicKey)
 fn key_at(keys: PathKeys, level: usize) -> PublicKey
     ensures { result ≡ key_from keys.entry level }
 {
-    if level < keys.nodes.len() {
-        keys.nodes[level]
-    } else {
-        keys.leaf
-    }
+    keys.nodes.get(level).copied().unwrap_or(keys.leaf)
 }
 
-// The parent above a level: keyed where there is somebody on its other side to seal to, else blank.
-fn lay_parent(heap: Global, node: &mut Node, key: PublicKey, reached: bool)
-    ensures { parent_of node.new ≡ (if reached then keyed key [] else blank_parent) }
+// The parent above a level: keyed where a key is laid, else blank.
+fn lay_parent(alloc: Global, node: &mut Node, key: Option<PublicKey>)
+    ensures { MatchOption key (parent_of node.new ≡ blank_parent) (λ k. parent_of node.new ≡ keyed k []) }
 {
-    let parent = if reached {
-        Parent::Keyed {
+    *node = Node::Parent(match key {
+        Some(key) => Parent::Keyed {
             key,
-            unmerged: Vec::new(heap),
-        }
-    } else {
-        Parent::Blank
-    };
-    *node = Node::Parent(parent);
+            unmerged: Vec::new(alloc),
+        },
+        None => Parent::Blank,
+    });
 }
 
-// Lays the path in a part; answers how many node keys that took.
+// Lays the path in a part; answers how many node keys that took. The nodes and their height are two parameters: a
+// struct of both that is written through gets no proof by value, and behind a `&mut` each call would also have to
+// promise that it still lends the same nodes.
 fn lay_in(
-    heap: Global,
+    alloc: Global,
     nodes: &mut [Node],
     height: usize,
     member: MemberId,
@@ -87,34 +113,20 @@ fn lay_in(
         return 0;
     }
     let middle = nodes.len() / 2;
-    let left = Part {
-        nodes: left_half(nodes),
-        height: height - 1,
+    let Some(half) = own_half(Part { nodes, height }, member) else {
+        return 0;
     };
-    let right = Part {
-        nodes: right_half(nodes),
-        height: height - 1,
-    };
-    if left.is_seated(member) {
-        let reached = is_reached(right);
-        let level = lay_in(heap, &mut nodes[0..middle], height - 1, member, keys);
-        lay_parent(heap, &mut nodes[middle], key_at(keys, level), reached);
-        return level + reached as usize;
-    }
-    if right.is_seated(member) {
-        let reached = is_reached(left);
-        let level = lay_in(heap, &mut nodes[middle + 1..], height - 1, member, keys);
-        lay_parent(heap, &mut nodes[middle], key_at(keys, level), reached);
-        return level + reached as usize;
-    }
-    0
+    let level = lay_in(alloc, &mut nodes[half.nodes], height - 1, member, keys);
+    let key = half.reached.then_some(key_at(keys, level));
+    lay_parent(alloc, &mut nodes[middle], key);
+    level + half.reached as usize
 }
 
 // The committer takes its new leaf key and lays its node keys from its leaf to the top; answers how many that took.
-pub fn lay_path(heap: Global, tree: &mut RatchetTree, committer: MemberId, keys: PathKeys) -> usize
+pub fn lay_path(alloc: Global, tree: &mut RatchetTree, committer: MemberId, keys: PathKeys) -> usize
     ensures tree { the_tree tree.new ≡ (laid committer.0 keys.entry.leaf (key_from keys.entry) (the_tree tree.old)).tree }
     ensures value { result ≡ (laid committer.0 keys.entry.leaf (key_from keys.entry) (the_tree tree.old)).levels }
 {
     let depth = tree.depth;
-    lay_in(heap, &mut tree.nodes, depth, committer, keys)
+    lay_in(alloc, &mut tree.nodes, depth, committer, keys)
 }

@@ -5,23 +5,23 @@ ghost use Rattle.commits.specs.Refusals.{number_of};
 #[derive(Clone, Copy, PartialEq, Eq, Debug)]
 pub enum Refusal {
     // Bytes or a line that is nothing of ours, or a script that is too long.
-    Malformed,
+    Malformed = 1,
     // A message whose epoch isn't the next.
-    WrongEpoch,
+    WrongEpoch = 2,
     // The committer isn't seated, or this handset isn't and isn't the newcomer.
-    NotSeated,
+    NotSeated = 3,
     // The member to remove isn't seated, or is the committer.
-    CannotRemove,
+    CannotRemove = 4,
     // The newcomer is seated, or has nobody's number.
-    CannotAdd,
+    CannotAdd = 5,
     // Every leaf of the largest tree is occupied.
-    GroupFull,
+    GroupFull = 6,
     // A message with another number of node keys or boxes than the rules give.
-    WrongCounts,
+    WrongCounts = 7,
     // A tree file, or a founder, that breaks a rule.
-    BadTree,
+    BadTree = 8,
     // There is no epoch after the last one.
-    LastEpoch,
+    LastEpoch = 9,
 }
 
 impl Refusal {
@@ -29,16 +29,6 @@ impl Refusal {
     pub fn number(self) -> u8
         ensures value { result ≡ number_of self }
     {
-        match self {
-            Refusal::Malformed => 1,
-            Refusal::WrongEpoch => 2,
-            Refusal::NotSeated => 3,
-            Refusal::CannotRemove => 4,
-            Refusal::CannotAdd => 5,
-            Refusal::GroupFull => 6,
-            Refusal::WrongCounts => 7,
-            Refusal::BadTree => 8,
-            Refusal::LastEpoch => 9,
-        }
+        self as u8
     }
 }
