@@ -8,7 +8,8 @@ use Rattle.theory.specs.Tree.{Tree, leaf, node, Leaf, blank_leaf, occupied, Pare
 use Rattle.theory.specs.Held.{is_unmerged}
 use Rattle.theory.specs.Places.{Turn, left, right, leaf_at, parent_at, sits, has_key, has_unmerged, Over, top, down, LeftOf, parts, after}
 use Rattle.theory.specs.Laws.{Seating, Addition, Unmerged, UnmergedSince}
-use Rattle.theory.proofs.Tests.{decided, is_true, is_false, and_left, and_right, nand-right, nor-left, nor-right, same_some, none-some}
+use Rattle.std.proofs.lemmas.Option.{same_Some}
+use Rattle.theory.proofs.Tests.{decided, is_true, is_false, and_left, and_right, nand-right, nor-left, nor-right}
 use Rattle.theory.proofs.Places.{sits-seated}
 
 -- m comes with k into the first tree, which makes the second of it, and takes the place
@@ -45,13 +46,13 @@ adding m k (node c l r) h =
 full-leaf :
     {K : Type 0} (q : List Turn) (t : Tree K) → T (full t) → (x : Leaf K) → leaf_at q t ≡ Some x → T (not (is_blank x))
 unfolding leaf_at full
-full-leaf [] (leaf y) h x e = rw (same_some e) at h
-full-leaf [] (node c l r) h x e = absurd (none-some e)
-full-leaf (d ∷ q) (leaf y) h x e = absurd (none-some e)
+full-leaf [] (leaf y) h x e = rw (same_Some _ _ e) at h
+full-leaf [] (node c l r) h x e = cc
+full-leaf (d ∷ q) (leaf y) h x e = cc
 full-leaf (left ∷ q) (node c l r) h x e = full-leaf q l (and_left (full l) (full r) h) x e
 full-leaf (right ∷ q) (node c l r) h x e = full-leaf q r (and_right (full l) (full r) h) x e
 
-or-last : (a b c : Bool) → (a || c || b) ≡ (a || b || c)
+pub or-last : (a b c : Bool) → (a || c || b) ≡ (a || b || c)
 or-last true b c = refl
 or-last false b c = or_comm c b
 

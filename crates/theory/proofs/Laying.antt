@@ -19,12 +19,6 @@ pub data From {K : Type 0} (m : ℕ) (own : K) (keys : ℕ → K) : Tree K → T
       {c : Parent K} {l r r' : Tree K} {i : ℕ} {p : List Turn} → From m own keys r r' i p →
       From m own keys (node c l r) (node (parent_laid keys i (resolution l)) l r') (level_after i (resolution l)) (right ∷ p)
 
-same_rest : {d : Turn} {q p : List Turn} → (d ∷ q) ≡ (d ∷ p) → q ≡ p
-same_rest e = cc
-
-other_way : {q p : List Turn} → (left ∷ q) ≡ (right ∷ p) → ⊥
-other_way e = let z : ◌≡◌ {A = ℕ} 0 1 = cc in omega arith
-
 module _ {K : Type 0} {m : ℕ} {own : K} {keys : ℕ → K} where
   pub from :
       {t u : Tree K} {i : ℕ} {ts : List (Target K)} → Climbing m own keys t u i ts →
@@ -34,12 +28,12 @@ module _ {K : Type 0} {m : ℕ} {own : K} {keys : ℕ → K} where
   from climbs.here [] s f = here
   from climbs.here (d ∷ p) s f = elim s [ ]
   from (climbs.in_left h a) [] s f = elim s [ ]
-  from (climbs.in_left h a) (left ∷ p) s f = in_left (from a p s (λ q x. same_rest (f (left ∷ q) x)))
+  from (climbs.in_left h a) (left ∷ p) s f = in_left (from a p s (λ q x. cc (f (left ∷ q) x)))
   from (climbs.in_left {l} h a) (right ∷ p) s f =
-      let x = seated-sits m l h in absurd (other_way (f (left ∷ x.0) x.1))
+      let x = seated-sits m l h in cc (f (left ∷ x.0) x.1)
   from (climbs.in_right h g a) [] s f = elim s [ ]
   from (climbs.in_right {l} h g a) (left ∷ p) s f = absurd (T_not (seated m l) h (sits-seated m p l s))
-  from (climbs.in_right h g a) (right ∷ p) s f = in_right (from a p s (λ q x. same_rest (f (right ∷ q) x)))
+  from (climbs.in_right h g a) (right ∷ p) s f = in_right (from a p s (λ q x. cc (f (right ∷ q) x)))
 
   from-leaf : {t u : Tree K} {i : ℕ} {p : List Turn} → From m own keys t u i p → leaf_at p u ≡ Some (occupied m own)
   unfolding leaf_at

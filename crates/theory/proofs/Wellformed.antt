@@ -3,6 +3,7 @@
 use Rattle.std.proofs.Common.{◌≡◌, ℕ, zero, suc, ◌<◌, Bool, true, false, not, ◌&&◌, ◌||◌, T, eqb, leb, ◌↔◌, List, [], ◌∷◌, ◌++◌, is_some, Some, None, Option, sym, refl, ap, inl, inr, arith, eqb→eq, ltb→lt, lt→ltb, T_not}
 use mathlib.Core.Bool.{or-false, or_assoc, or_comm}
 use lib.Dec.{not_T, eqb_refl, nleb→lt}
+use Rattle.std.proofs.Math.Facts.{T_not-not}
 use Rattle.theory.specs.Limits.{max_members, nobody, last_epoch}
 use Rattle.theory.specs.Secrets.{Secret}
 use Rattle.theory.specs.Tree.{Tree, leaf, node, Leaf, blank_leaf, occupied, Parent, blank_parent, keyed, seated, full, members, resolution, blank_tree, grown, unmerged_at, added, removed}
@@ -11,11 +12,12 @@ use Rattle.theory.specs.Held.{is_unmerged}
 use Rattle.theory.specs.Group.{Change, renew, remove, add, Commit, Group, first_of, change_refusal, refusal, readied, laid_by, allowed, committed, group}
 use Rattle.theory.specs.Places.{Turn, left, right, leaf_at, parent_at, sits, Over, down}
 use Rattle.theory.specs.Wellformed.{distinct, all_seated, some_merged, merges, apart, consistent, numbered, well_formed, Merging, Consistent, WellFormed, WellFormedIs, WellFormedKept, Distinct}
-use Rattle.theory.proofs.Tests.{nor-left, nor-right, by_cond, decided, is_false, or_cases, or_left, or_right, nor, both, and_left, and_right, none-some}
+use Rattle.theory.proofs.Tests.{nor-left, nor-right, by_cond, decided, is_false, or_cases, or_left, or_right, nor, both, and_left, and_right}
 use Rattle.theory.proofs.Places.{sits-seated, seated-sits, seated-below}
 use Rattle.theory.proofs.Removal.{seated-removed}
-use Rattle.theory.proofs.Addition.{Adding, adding, added_full, seated-adding}
+use Rattle.theory.proofs.Addition.{Adding, adding, added_full, or-last, seated-adding}
 use Rattle.theory.proofs.Addition as adds
+use Rattle.theory.proofs.Level.{not-refused}
 use Rattle.theory.proofs.Growth.{grown-full, grown-roomy, blank-deserted}
 use Rattle.theory.proofs.Runs.{Laying, seated-laying}
 use Rattle.theory.proofs.Runs as runs
@@ -32,19 +34,11 @@ pub record Permitted {K : Type 0} (e : ℕ) (c : Commit) (t : Tree K) : Type 0 w
   pub present : T (seated c.committer t)
   pub asked : Fine c.committer t c.change
 
-not-refused : (b : Bool) (n : ℕ) (o : Option ℕ) → T (not (is_some (first_of b n o))) → T (not b) × T (not (is_some o))
-not-refused true n o h = elim h [ ]
-not-refused false n o h = (tt, h)
-
-not-not : (b : Bool) → T (not (not b)) → T b
-not-not true h = tt
-not-not false h = h
-
 fine : {K : Type 0} (w : ℕ) (c : Change) (t : Tree K) → T (not (is_some (change_refusal w c t))) → Fine w t c
 fine w renew t h = renewal
 fine w (remove m) t h =
     let a = (not-refused (not (seated m t) || eqb m w) 4 None h).0 in
-    removal (not-not (seated m t) (nor-left (not (seated m t)) (eqb m w) a)) (nor-right (not (seated m t)) (eqb m w) a)
+    removal (T_not-not (seated m t) (nor-left (not (seated m t)) (eqb m w) a)) (nor-right (not (seated m t)) (eqb m w) a)
 fine w (add m) t h =
     let a = not-refused (seated m t || leb nobody m) 5 (first_of (leb max_members (members t)) 6 None) h in
     let d = not-refused (leb max_members (members t)) 6 None a.1 in
@@ -168,10 +162,6 @@ unfolding is_unmerged distinct
 coming m blank_parent who then h e s = tt
 coming m (keyed k un) who then h e s = grind arith
 
-or_swap : (a b c : Bool) → ((a || c) || b) ≡ ((a || b) || c)
-or_swap true b c = refl
-or_swap false b c = or_comm c b
-
 module _ {K : Type 0} {m : ℕ} {k : K} where
   pub adding-sound : {t u : Tree K} {p : List Turn} → Adding m k t u p → T (not (seated m t)) → Sound t → Sound u
   unfolding seated
@@ -184,7 +174,7 @@ module _ {K : Type 0} {m : ℕ} {k : K} where
         | inr z ↦ T_not (seated m r) (nor-right (seated m l) (seated m r) h) (rw (eqb→eq m w z) y)
       ])
       (coming m c (λ w. seated w l || seated w r) (λ w. seated w l' || seated w r) h
-      (λ w. rw (seated-adding a w) (or_swap (seated w l) (seated w r) (eqb m w))) g)
+      (λ w. rw (seated-adding a w) (or-last (seated w l) (seated w r) (eqb m w))) g)
       (adding-sound a (nor-left (seated m l) (seated m r) h) p) q
   adding-sound (adds.in_right {c} {l} {r} {r'} v a) h (at_node f g p q) =
       at_node {l = l} {r = r'}
@@ -407,8 +397,8 @@ top-merging (keyed j vs) l r s k un e = grind (arith, seated-below)
 pub sound-merging-at :
     {K : Type 0} {t : Tree K} → Sound t → (q : List Turn) (k : K) (un : List ℕ) → parent_at q t ≡ Some (keyed k un) → Merging q un t
 unfolding parent_at
-sound-merging-at at_leaf [] k un e = absurd (none-some e)
-sound-merging-at at_leaf (d ∷ q) k un e = absurd (none-some e)
+sound-merging-at at_leaf [] k un e = cc
+sound-merging-at at_leaf (d ∷ q) k un e = cc
 sound-merging-at (at_node {c} {l} {r} f g x y) [] k un e = top-merging c l r g k un e
 sound-merging-at (at_node {c} {l} {r} f g x y) (left ∷ q) k un e = grind (arith, deeper-left, sound-merging-at x q k un e)
 sound-merging-at (at_node {c} {l} {r} f g x y) (right ∷ q) k un e = grind (arith, deeper-right, sound-merging-at y q k un e)
@@ -429,17 +419,11 @@ higher-right :
 unfolding leaf_at
 higher-right c l r w q (down {p} o) s = (p, o, s)
 
-same_turn : {d : Turn} {p q : List Turn} → ◌≡◌ {A = List Turn} (d ∷ p) (d ∷ q) → p ≡ q
-same_turn e = cc
-
-turned : {p q : List Turn} → ◌≡◌ {A = List Turn} (left ∷ p) (right ∷ q) → ⊥
-turned e = let z : ◌≡◌ {A = ℕ} 0 1 = cc in omega arith
-
 facts-left : {K : Type 0} (c : Parent K) (l r : Tree K) → Consistent (node c l r) → Consistent l
 unfolding leaf_at parent_at
 facts-left c l r s =
     record {
-      sole = λ m p q a b. same_turn (s.sole m (left ∷ p) (left ∷ q) a b);
+      sole = λ m p q a b. cc (s.sole m (left ∷ p) (left ∷ q) a b);
       merging =
           λ q k un e.
           let m = s.merging (left ∷ q) k un e in
@@ -456,7 +440,7 @@ facts-right : {K : Type 0} (c : Parent K) (l r : Tree K) → Consistent (node c 
 unfolding leaf_at parent_at
 facts-right c l r s =
     record {
-      sole = λ m p q a b. same_turn (s.sole m (right ∷ p) (right ∷ q) a b);
+      sole = λ m p q a b. cc (s.sole m (right ∷ p) (right ∷ q) a b);
       merging =
           λ q k un e.
           let m = s.merging (right ∷ q) k un e in
@@ -492,7 +476,7 @@ facts-sound (node c l r) s =
     (λ w a b.
     let p = seated-sits w l a in
     let q = seated-sits w r b in
-    turned (s.sole w (left ∷ p.0) (right ∷ q.0) p.1 q.1))
+    cc (s.sole w (left ∷ p.0) (right ∷ q.0) p.1 q.1))
     (facts-top c c l r (s.merging []))
     (facts-sound l (facts-left c l r s)) (facts-sound r (facts-right c l r s))
 
