@@ -1,7 +1,7 @@
 -- What a path does to leaves and parents, by a view of it: `From`.
 -- Assumes nothing.
-use Rattle.std.proofs.Common.{◌≡◌, ℕ, ◌<◌, T, List, [], ◌∷◌, Some, refl, ap, arith, T_not}
-use Rattle.theory.specs.Tree.{Tree, leaf, node, occupied, Parent, blank_parent, keyed, seated, resolution}
+use Rattle.std.proofs.Common.{◌≡◌, ℕ, T, List, [], ◌∷◌, Some, refl, ap, arith, T_not}
+use Rattle.theory.specs.Tree.{Tree, leaf, node, occupied, Parent, seated, resolution}
 use Rattle.theory.specs.Path.{Target, parent_laid, level_after}
 use Rattle.theory.specs.Places.{Turn, left, right, leaf_at, parent_at, sits, Over, top, down, right_half, left_half, under_left, under_right}
 use Rattle.theory.specs.Laws.{AbovePath, OverMaker, SitsOnlyAt, PathLaid}

@@ -1,6 +1,6 @@
 -- Where a position lies.
 -- Assumes nothing.
-use Rattle.std.proofs.Common.{◌≡◌, ℕ, not, T, ◌↔◌, List, [], ◌∷◌, Some, None, Option, sym, refl, T_not}
+use Rattle.std.proofs.Common.{◌≡◌, ℕ, not, T, ◌↔◌, List, [], ◌∷◌, Some, None, Option, refl, T_not}
 use Rattle.theory.specs.Tree.{Tree, leaf, node, Parent, is_at, seated, leaves, position, or_else}
 use Rattle.theory.specs.Places.{Turn, left, right, leaf_at, sits, leaves_before}
 use Rattle.theory.specs.Laws.{Positioned, PositionIs}

@@ -1,9 +1,9 @@
 -- What is asked of a tree holds of every tree of a run, by an invariant on trees: `Sound`; and a view of the path that a commit lays: `Climbing`.
 -- Assumes nothing.
-use Rattle.std.proofs.Common.{◌≡◌, ℕ, zero, suc, ◌<◌, Bool, true, false, not, ◌&&◌, ◌||◌, T, eqb, leb, ◌↔◌, List, [], ◌∷◌, ◌++◌, is_some, Some, None, Option, sym, refl, ap, inl, inr, arith, eqb→eq, ltb→lt, lt→ltb, T_not}
-use mathlib.Core.Bool.{or-false, or_assoc, or_comm}
+use Rattle.std.proofs.Common.{◌≡◌, ℕ, zero, suc, ◌<◌, Bool, not, ◌&&◌, ◌||◌, T, eqb, leb, ◌↔◌, List, [], ◌∷◌, ◌++◌, is_some, Some, None, Option, sym, refl, ap, inl, inr, arith, eqb→eq, ltb→lt, lt→ltb, T_not}
+use mathlib.Core.Bool.{or_assoc}
 use lib.Dec.{not_T, eqb_refl, nleb→lt}
-use Rattle.std.proofs.Math.Facts.{T_not-not}
+use Rattle.std.proofs.Math.Facts.{T_not-not, yes_and}
 use Rattle.theory.specs.Limits.{max_members, nobody, last_epoch}
 use Rattle.theory.specs.Secrets.{Secret}
 use Rattle.theory.specs.Tree.{Tree, leaf, node, Leaf, blank_leaf, occupied, Parent, blank_parent, keyed, seated, full, members, resolution, blank_tree, grown, unmerged_at, added, removed}
@@ -12,7 +12,7 @@ use Rattle.theory.specs.Held.{is_unmerged}
 use Rattle.theory.specs.Group.{Change, renew, remove, add, Commit, Group, first_of, change_refusal, refusal, readied, laid_by, allowed, committed, group}
 use Rattle.theory.specs.Places.{Turn, left, right, leaf_at, parent_at, sits, Over, down}
 use Rattle.theory.specs.Wellformed.{distinct, all_seated, some_merged, merges, apart, consistent, numbered, well_formed, Merging, Consistent, WellFormed, WellFormedIs, WellFormedKept, Distinct}
-use Rattle.theory.proofs.Tests.{nor-left, nor-right, by_cond, decided, is_false, or_cases, or_left, or_right, nor, both, and_left, and_right}
+use Rattle.theory.proofs.Tests.{nor-left, nor-right, by_cond, decided, or_cases, or_left, or_right, nor, and_left, and_right}
 use Rattle.theory.proofs.Places.{sits-seated, seated-sits, seated-below}
 use Rattle.theory.proofs.Removal.{seated-removed}
 use Rattle.theory.proofs.Addition.{Adding, adding, added_full, or-last, seated-adding}
@@ -144,7 +144,7 @@ pub was-seated : {K : Type 0} (w m : ℕ) (t : Tree K) → T (seated w (removed 
 was-seated w m t h = and_left (seated w t) (not (eqb w m)) (rw (seated-removed w m t) at h)
 
 pub is-left : {K : Type 0} (w m : ℕ) (t : Tree K) → T (seated w t) → T (not (eqb w m)) → T (seated w (removed m t))
-is-left w m t h n = rw (seated-removed w m t) (both (seated w t) (not (eqb w m)) h n)
+is-left w m t h n = rw (seated-removed w m t) (yes_and (seated w t) (not (eqb w m)) h n)
 
 pub removed-sound : {K : Type 0} (m : ℕ) {t : Tree K} → Sound t → Sound (removed m t)
 unfolding removed
@@ -281,7 +281,7 @@ seated-all (v ∷ ws) t h w u = grind (arith, seated-all ws t)
 all-seated : {K : Type 0} (ws : List ℕ) (t : Tree K) → ((w : ℕ) → T (is_unmerged w ws) → T (seated w t)) → T (all_seated ws t)
 unfolding all_seated is_unmerged
 all-seated [] t h = tt
-all-seated (v ∷ ws) t h = search (both, or_left, eqb_refl, or_right, all-seated ws t)
+all-seated (v ∷ ws) t h = search (yes_and, or_left, eqb_refl, or_right, all-seated ws t)
 
 some-merged :
     {K : Type 0} (un : List ℕ) (t : Tree K) → T (some_merged un t) → (w : ℕ) × T (seated w t) × T (not (is_unmerged w un))
@@ -306,7 +306,7 @@ all_apart : {K : Type 0} (l r : Tree K) → Apart l r → T (apart l r)
 unfolding apart seated
 all_apart (leaf blank_leaf) r h = tt
 all_apart (leaf (occupied v k)) r h = not_T (seated v r) (h v (eqb_refl v))
-all_apart (node p x y) r h = search (both, or_left, or_right, all_apart x r, all_apart y r)
+all_apart (node p x y) r h = search (yes_and, or_left, or_right, all_apart x r, all_apart y r)
 
 merging-sound : {K : Type 0} (c p : Parent K) (l r : Tree K) → T (merges c (node p l r)) → ParentSound c (λ w. seated w l || seated w r)
 unfolding seated
@@ -323,7 +323,7 @@ merging-sound (keyed k un) p l r h =
 sound-merging : {K : Type 0} (c p : Parent K) (l r : Tree K) → ParentSound c (λ w. seated w l || seated w r) → T (merges c (node p l r))
 unfolding seated
 sound-merging blank_parent p l r s = tt
-sound-merging (keyed k un) p l r s = search (both, all-seated, merged_some)
+sound-merging (keyed k un) p l r s = search (yes_and, all-seated, merged_some)
 
 -- the test gives the invariant
 pub consistent-sound : {K : Type 0} (t : Tree K) → T (consistent t) → Sound t
@@ -341,7 +341,7 @@ consistent-sound (node p l r) h =
 pub sound-consistent : {K : Type 0} {t : Tree K} → Sound t → T (consistent t)
 unfolding consistent
 sound-consistent at_leaf = tt
-sound-consistent (at_node {c} {l} {r} f g p q) = search (both, all_apart, sound-merging, sound-consistent p, sound-consistent q)
+sound-consistent (at_node {c} {l} {r} f g p q) = search (yes_and, all_apart, sound-merging, sound-consistent p, sound-consistent q)
 
 pub numbered-all : {K : Type 0} (t : Tree K) → T (numbered t) → Numbered t
 unfolding numbered seated
@@ -353,10 +353,10 @@ pub all-numbered : {K : Type 0} (t : Tree K) → Numbered t → T (numbered t)
 unfolding numbered seated
 all-numbered (leaf blank_leaf) h = tt
 all-numbered (leaf (occupied v k)) h = lt→ltb v nobody (h v (eqb_refl v))
-all-numbered (node p l r) h = search (both, or_left, or_right, all-numbered l, all-numbered r)
+all-numbered (node p l r) h = search (yes_and, or_left, or_right, all-numbered l, all-numbered r)
 
 pub well-formed-kept : WellFormedKept
-well-formed-kept f commits n = search (sound-consistent, run_sound, both, all-numbered, run-numbered)
+well-formed-kept f commits n = search (sound-consistent, run_sound, yes_and, all-numbered, run-numbered)
 
 -- THE FACTS, in the words of places.
 pub sound-sole :
@@ -487,7 +487,7 @@ well-formed-facts t = (
         numbers = numbered-all t (and_left (numbered t) (consistent t) h);
         consistent = sound-facts (consistent-sound t (and_right (numbered t) (consistent t) h));
       },
-  λ s. both (numbered t) (consistent t) (all-numbered t s.numbers) (sound-consistent (facts-sound t s.consistent)),
+  λ s. yes_and (numbered t) (consistent t) (all-numbered t s.numbers) (sound-consistent (facts-sound t s.consistent)),
 )
 
 pub well_formed_is : WellFormedIs

@@ -1,7 +1,6 @@
 -- A path that is laid: its committer seals it level by level, and has the node keys of all of it.
 -- Assumes nothing.
-use Rattle.std.proofs.Common.{◌≡◌, ℕ, suc, ◌≤◌, eqb, List, [], ◌∷◌, ◌++◌, Some, None, sym, ap, ◌∙◌, append_assoc, append-nil, arith}
-use lib.Dec.{eqb_refl}
+use Rattle.std.proofs.Common.{◌≡◌, ℕ, suc, ◌≤◌, List, [], ◌∷◌, ◌++◌, Some, None, sym, ap, append_assoc, append-nil, arith}
 use Rattle.theory.specs.Limits.{max_depth}
 use Rattle.theory.specs.Secrets.{Secret, ups}
 use Rattle.theory.specs.Tree.{Tree, seated, resolution}
@@ -16,10 +15,10 @@ use Rattle.vault_theory.specs.Numbers.{levels}
 use Rattle.vault_theory.specs.Orders.{sealed_up, made}
 use Rattle.vault_theory.specs.Layout.{first}
 use Rattle.vault_theory.specs.Slots.{seen, node_keys}
-use Rattle.vault_theory.proofs.Steps.{Slots, put_same, put-put, vault, Runs, done, one-after, then-publish, each, seal-all, runs-from, runs_to}
+use Rattle.vault_theory.proofs.Steps.{Slots, put_same, vault, Runs, done, one-after, then-publish, each, seal-all, runs-from, runs_to}
 use Rattle.vault_theory.proofs.Seats.{Seat, here, on_left, on_right, seat-seated, seat-level}
 use Rattle.vault_theory.proofs.Slots.{parent_over, over, over-left, over-right, over-next, read_next}
-use Rattle.vault_theory.proofs.Following.{Free, free-put, free-over, holding, rise, turn-over, node_key, after, after-level, after-seated, reached, after-left, after-right, boxes-append, boxes-each}
+use Rattle.vault_theory.proofs.Following.{Free, free-put, free-over, holding, rise, turn-over, node_key, after, after-level, after-seated, reached, after-left, after-right, boxes-each}
 use Rattle.std.proofs.lemmas.Grind.{common_steps}
 
 -- what is sealed below a parent and at it is what is sealed in all
