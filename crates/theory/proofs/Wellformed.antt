@@ -376,13 +376,25 @@ sound-sole (at_node f g x y) m (right ∷ p) (right ∷ q) a b = ap (λ w. right
 abbrev pub SitsBelow : {K : Type 0} → ℕ → List Turn → Tree K → Type 0
 SitsBelow w q t = (p : List Turn) × Over q p × T (sits w p t)
 
-deeper-left : {K : Type 0} (c : Parent K) (l r : Tree K) (w : ℕ) (q : List Turn) → SitsBelow w q l → SitsBelow w (left ∷ q) (node c l r)
-unfolding leaf_at
-deeper-left c l r w q s = (left ∷ s.0, down s.1, s.2)
+-- the half of a parent that a turn leads into, and what lies there
+abbrev half : {K : Type 0} → Turn → Tree K → Tree K → Tree K
+half left l r = l
+half right l r = r
 
-deeper-right : {K : Type 0} (c : Parent K) (l r : Tree K) (w : ℕ) (q : List Turn) → SitsBelow w q r → SitsBelow w (right ∷ q) (node c l r)
+leaf-half : {K : Type 0} (d : Turn) (p : List Turn) (c : Parent K) (l r : Tree K) → leaf_at (d ∷ p) (node c l r) ≡ leaf_at p (half d l r)
 unfolding leaf_at
-deeper-right c l r w q s = (right ∷ s.0, down s.1, s.2)
+leaf-half left p c l r = refl
+leaf-half right p c l r = refl
+
+parent-half : {K : Type 0} (d : Turn) (p : List Turn) (c : Parent K) (l r : Tree K) → parent_at (d ∷ p) (node c l r) ≡ parent_at p (half d l r)
+unfolding parent_at
+parent-half left p c l r = refl
+parent-half right p c l r = refl
+
+deeper :
+    {K : Type 0} (d : Turn) (c : Parent K) (l r : Tree K) (w : ℕ) (q : List Turn) → SitsBelow w q (half d l r) →
+    SitsBelow w (d ∷ q) (node c l r)
+deeper d c l r w q s = (d ∷ s.0, down s.1, rw (leaf-half d s.0 c l r) s.2)
 
 blank-keyed : {K : Type 0} {b : K} {vs : List ℕ} → ◌≡◌ {A = Option (Parent K)} (Some blank_parent) (Some (keyed b vs)) → ⊥
 blank-keyed e = let z : ◌≡◌ {A = ℕ} 0 1 = cc in omega arith
@@ -400,56 +412,31 @@ unfolding parent_at
 sound-merging-at at_leaf [] k un e = cc
 sound-merging-at at_leaf (d ∷ q) k un e = cc
 sound-merging-at (at_node {c} {l} {r} f g x y) [] k un e = top-merging c l r g k un e
-sound-merging-at (at_node {c} {l} {r} f g x y) (left ∷ q) k un e = grind (arith, deeper-left, sound-merging-at x q k un e)
-sound-merging-at (at_node {c} {l} {r} f g x y) (right ∷ q) k un e = grind (arith, deeper-right, sound-merging-at y q k un e)
+sound-merging-at (at_node {c} {l} {r} f g x y) (left ∷ q) k un e = grind (arith, deeper left c l r, sound-merging-at x q k un e)
+sound-merging-at (at_node {c} {l} {r} f g x y) (right ∷ q) k un e = grind (arith, deeper right c l r, sound-merging-at y q k un e)
 
 pub sound-facts : {K : Type 0} {t : Tree K} → Sound t → Consistent t
 sound-facts s = record { sole = sound-sole s; merging = sound-merging-at s }
 
 -- and back: a tree with these facts is sound
-higher-left :
-    {K : Type 0} (c : Parent K) (l r : Tree K) (w : ℕ) (q : List Turn) {p : List Turn} → Over (left ∷ q) p → T (sits w p (node c l r)) →
-    SitsBelow w q l
-unfolding leaf_at
-higher-left c l r w q (down {p} o) s = (p, o, s)
+higher :
+    {K : Type 0} (d : Turn) (c : Parent K) (l r : Tree K) (w : ℕ) (q : List Turn) {p : List Turn} → Over (d ∷ q) p →
+    T (sits w p (node c l r)) → SitsBelow w q (half d l r)
+higher d c l r w q (down {p} o) s = (p, o, rw (leaf-half d p c l r) at s)
 
-higher-right :
-    {K : Type 0} (c : Parent K) (l r : Tree K) (w : ℕ) (q : List Turn) {p : List Turn} → Over (right ∷ q) p → T (sits w p (node c l r)) →
-    SitsBelow w q r
-unfolding leaf_at
-higher-right c l r w q (down {p} o) s = (p, o, s)
-
-facts-left : {K : Type 0} (c : Parent K) (l r : Tree K) → Consistent (node c l r) → Consistent l
-unfolding leaf_at parent_at
-facts-left c l r s =
+facts-half : {K : Type 0} (d : Turn) (c : Parent K) (l r : Tree K) → Consistent (node c l r) → Consistent (half d l r)
+facts-half d c l r s =
     record {
-      sole = λ m p q a b. cc (s.sole m (left ∷ p) (left ∷ q) a b);
+      sole = λ m p q a b. cc (s.sole m (d ∷ p) (d ∷ q) (rw (leaf-half d p c l r) a) (rw (leaf-half d q c l r) b));
       merging =
           λ q k un e.
-          let m = s.merging (left ∷ q) k un e in
+          let m = s.merging (d ∷ q) k un (rw (parent-half d q c l r) e) in
           record {
             once = m.once;
-            below = λ w u. let b = m.below w u in higher-left c l r w q b.1 b.2;
+            below = λ w u. let b = m.below w u in higher d c l r w q b.1 b.2;
             somebody =
                 let b = m.somebody in
-                (b.0, b.1, higher-left c l r b.0 q b.2.1 b.2.2);
-          };
-    }
-
-facts-right : {K : Type 0} (c : Parent K) (l r : Tree K) → Consistent (node c l r) → Consistent r
-unfolding leaf_at parent_at
-facts-right c l r s =
-    record {
-      sole = λ m p q a b. cc (s.sole m (right ∷ p) (right ∷ q) a b);
-      merging =
-          λ q k un e.
-          let m = s.merging (right ∷ q) k un e in
-          record {
-            once = m.once;
-            below = λ w u. let b = m.below w u in higher-right c l r w q b.1 b.2;
-            somebody =
-                let b = m.somebody in
-                (b.0, b.1, higher-right c l r b.0 q b.2.1 b.2.2);
+                (b.0, b.1, higher d c l r b.0 q b.2.1 b.2.2);
           };
     }
 
@@ -478,7 +465,7 @@ facts-sound (node c l r) s =
     let q = seated-sits w r b in
     cc (s.sole w (left ∷ p.0) (right ∷ q.0) p.1 q.1))
     (facts-top c c l r (s.merging []))
-    (facts-sound l (facts-left c l r s)) (facts-sound r (facts-right c l r s))
+    (facts-sound l (facts-half left c l r s)) (facts-sound r (facts-half right c l r s))
 
 pub well-formed-facts : {K : Type 0} (t : Tree K) → T (well_formed t) ↔ WellFormed t
 well-formed-facts t = (
