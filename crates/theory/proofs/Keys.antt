@@ -138,6 +138,7 @@ of-sealed :
 of-sealed {K} n ks x = grind (arith, Memᴰ.of_map)
 
 module _ {K : Type 0} {m : ℕ} {own : K} {keys : ℕ → K} {b : Target K} where
+  -- the halves are written out both times: the constructors of Path, Below and Has say which half it is
   pub path-target :
       {n : ℕ} {t u : Tree K} {ts : List (Target K)} (a : Path m own keys t u n ts) → Once t → Memᴰ b ts →
       Sealing m t b (Had a b.level)

@@ -199,6 +199,7 @@ module _ (c : ℕ) (own s : Secret) where
         (boxed_at boxes mine (resolution other) (number_of_key w other) found.key found.numbered boxed)
         (path-small (levels c mine)) (free-path (over w other b) (levels c mine) (free-over w b (seat-level x) n f)) done
 
+    -- the halves are written out both times: what is run in each is another order, and each rewrites by other facts
     pub following :
         {w d : ℕ} {t : Tree Secret} (b : Slots) → Meeting w c d t → d ≤ max_depth → Free b → Boxed boxes (after t).targets →
         Runs boxes (followed w c t) (vault (over w t b) ds ss gs) (vault (reached t (over w (after t).tree b)) ds ss gs)

@@ -46,6 +46,7 @@ module _ (c : ℕ) (own s : Secret) {boxes : List (Sealed Secret)} {ds : List Se
       (then-publish (slot_of_key (suc d)) (node_key c own s i) (put_same (slot_of_key (suc d)) (Some (node_key c own s i)) (holding i (ups i s) (over c t (put (slot_of_key (suc d)) None b)))) (rw (append_assoc gs (node_keys i s) (node_key c own s i ∷ [])) done)))
       (ap (holding (suc i) (ups (suc i) s)) (over-next c (Some (node_key c own s i)) None b a)))
 
+  -- the halves are written out both times: each rewrites by other facts
   pub making :
       {d : ℕ} {t : Tree Secret} (b : Slots) (ss : List (Sealed Secret)) (gs : List Secret) → Seat c d t → d ≤ max_depth → Free b →
       Runs boxes (made c t) (vault (holding 0 s (put (slot_of_key 0) (Some own) (over c t b))) ds ss gs)
