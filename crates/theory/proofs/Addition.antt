@@ -8,8 +8,10 @@ use Rattle.theory.specs.Tree.{Tree, leaf, node, Leaf, blank_leaf, occupied, Pare
 use Rattle.theory.specs.Held.{is_unmerged}
 use Rattle.theory.specs.Places.{Turn, left, right, leaf_at, parent_at, sits, has_key, has_unmerged, Over, top, down, LeftOf, parts, after}
 use Rattle.theory.specs.Laws.{Seating, Addition, Unmerged, UnmergedSince}
-use Rattle.theory.proofs.Tests.{decided, is_true, is_false, and_left, and_right, nand-right, nor-left, nor-right, same_some, none-some}
-use Rattle.theory.proofs.Places.{sits-seated}
+use Rattle.std.proofs.lemmas.Option.{same_Some}
+use Rattle.theory.proofs.Tests.{decided, is_true, is_false, and_left, and_right, nand-right, nor-left, nor-right}
+use Rattle.theory.proofs.Places.{sits-seated, Along, leaves_kept, parents-kept}
+use Rattle.theory.proofs.Places as along
 
 -- m comes with k into the first tree, which makes the second of it, and takes the place
 pub data Adding {K : Type 0} (m : ℕ) (k : K) : Tree K → Tree K → List Turn → Type 0 where
@@ -45,13 +47,13 @@ adding m k (node c l r) h =
 full-leaf :
     {K : Type 0} (q : List Turn) (t : Tree K) → T (full t) → (x : Leaf K) → leaf_at q t ≡ Some x → T (not (is_blank x))
 unfolding leaf_at full
-full-leaf [] (leaf y) h x e = rw (same_some e) at h
-full-leaf [] (node c l r) h x e = absurd (none-some e)
-full-leaf (d ∷ q) (leaf y) h x e = absurd (none-some e)
+full-leaf [] (leaf y) h x e = rw (same_Some _ _ e) at h
+full-leaf [] (node c l r) h x e = cc
+full-leaf (d ∷ q) (leaf y) h x e = cc
 full-leaf (left ∷ q) (node c l r) h x e = full-leaf q l (and_left (full l) (full r) h) x e
 full-leaf (right ∷ q) (node c l r) h x e = full-leaf q r (and_right (full l) (full r) h) x e
 
-or-last : (a b c : Bool) → (a || c || b) ≡ (a || b || c)
+pub or-last : (a b c : Bool) → (a || c || b) ≡ (a || b || c)
 or-last true b c = refl
 or-last false b c = or_comm c b
 
@@ -76,17 +78,10 @@ module _ {K : Type 0} {m : ℕ} {k : K} where
   before-taken (in_right f a) (parts {p}) x e = full-leaf p _ f x e
   before-taken (in_right f a) (after b) x e = before-taken a b x e
 
-  pub leaves_kept :
-      {t u : Tree K} {p : List Turn} → Adding m k t u p → (q : List Turn) → (q ≡ p → ⊥) → leaf_at q u ≡ leaf_at q t
-  unfolding leaf_at
-  leaves_kept here [] h = absurd (h refl)
-  leaves_kept here (d ∷ q) h = refl
-  leaves_kept (in_left a) [] h = refl
-  leaves_kept (in_left a) (left ∷ q) h = leaves_kept a q (λ e. h (ap (λ w. left ∷ w) e))
-  leaves_kept (in_left a) (right ∷ q) h = refl
-  leaves_kept (in_right f a) [] h = refl
-  leaves_kept (in_right f a) (left ∷ q) h = refl
-  leaves_kept (in_right f a) (right ∷ q) h = leaves_kept a q (λ e. h (ap (λ w. right ∷ w) e))
+  pub adding-along : {t u : Tree K} {p : List Turn} → Adding m k t u p → Along t u p
+  adding-along here = along.here
+  adding-along (in_left a) = along.in_left (adding-along a)
+  adding-along (in_right f a) = along.in_right (adding-along a)
 
   pub parents-above :
       {t u : Tree K} {p q : List Turn} → Adding m k t u p → Over q p → parent_at q u ≡ option_map (unmerged_at m) (parent_at q t)
@@ -96,18 +91,6 @@ module _ {K : Type 0} {m : ℕ} {k : K} where
   parents-above (in_left a) (down o) = parents-above a o
   parents-above (in_right f a) top = refl
   parents-above (in_right f a) (down o) = parents-above a o
-
-  pub parents-kept :
-      {t u : Tree K} {p : List Turn} → Adding m k t u p → (q : List Turn) → (Over q p → ⊥) → parent_at q u ≡ parent_at q t
-  unfolding parent_at
-  parents-kept here [] h = refl
-  parents-kept here (d ∷ q) h = refl
-  parents-kept (in_left a) [] h = absurd (h top)
-  parents-kept (in_left a) (left ∷ q) h = parents-kept a q (λ o. h (down o))
-  parents-kept (in_left a) (right ∷ q) h = refl
-  parents-kept (in_right f a) [] h = absurd (h top)
-  parents-kept (in_right f a) (left ∷ q) h = refl
-  parents-kept (in_right f a) (right ∷ q) h = parents-kept a q (λ o. h (down o))
 
   pub seated-adding : {t u : Tree K} {p : List Turn} → Adding m k t u p → (w : ℕ) → seated w u ≡ (seated w t || eqb m w)
   unfolding seated
@@ -140,9 +123,9 @@ seating m k t h =
       free = place-free a.1;
       first = λ q x b. before-taken a.1 b x;
       taken = place-taken a.1;
-      others = leaves_kept a.1;
+      others = leaves_kept (adding-along a.1);
       above = λ q. parents-above a.1;
-      apart = parents-kept a.1;
+      apart = parents-kept (adding-along a.1);
       everybody = seated-adding a.1;
     }
 
@@ -166,7 +149,7 @@ unmerged m k t h absent none p q s =
     let e : p ≡ a.0 = only-place a.1 p absent s in
     record {
       above = λ o. ap (has_unmerged m) (parents-above a.1 (rw e at o)) ∙ keyed-unmerged m (parent_at q t);
-      apart = λ n. ap (has_unmerged m) (parents-kept a.1 q (λ o. n (rw (← e) at o))) ∙ is_false (has_unmerged m (parent_at q t)) (none q);
+      apart = λ n. ap (has_unmerged m) (parents-kept (adding-along a.1) q (λ o. n (rw (← e) at o))) ∙ is_false (has_unmerged m (parent_at q t)) (none q);
     }
 
 pub unmerged_since : UnmergedSince

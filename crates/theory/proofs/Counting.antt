@@ -1,7 +1,8 @@
 -- To how many keys a renewal is sealed: the resolution of a part has no more keys than members, and one key where the part is whole.
 -- Assumes nothing.
-use Rattle.std.proofs.Common.{◌≡◌, ℕ, zero, suc, ◌+◌, ◌<◌, ◌≤◌, not, T, eqb, List, [], ◌∷◌, ◌++◌, length, refl, ap, ◌∙◌, inl, inr, append-nil, arith, eqb→eq, T_not, length-append}
+use Rattle.std.proofs.Common.{◌≡◌, ℕ, zero, suc, ◌+◌, ◌<◌, ◌≤◌, not, T, eqb, List, [], ◌∷◌, ◌++◌, length, refl, ap, ◌∙◌, inl, inr, arith, eqb→eq, T_not, length-append}
 use lib.Dec.{not_T, eqb_refl}
+use Rattle.std.proofs.Math.Facts.{yes_and}
 use Rattle.theory.specs.Secrets.{Secret}
 use Rattle.theory.specs.Tree.{Tree, leaf, node, Leaf, blank_leaf, occupied, blank_parent, keyed, is_at, seated, members, leaf_key, leaf_keys, resolution, removed}
 use Rattle.theory.specs.Path.{Target, sealed_to, parent_laid}
@@ -9,7 +10,7 @@ use Rattle.theory.specs.Held.{is_unmerged}
 use Rattle.theory.specs.Group.{renew, Commit, Group, readied, path_key, path_boxes, allowed, group}
 use Rattle.theory.specs.Wellformed.{distinct}
 use Rattle.theory.specs.Follow.{Small, whole, Logarithmic}
-use Rattle.theory.proofs.Tests.{by_cond, decided, is_true, is_false, or_cases, or_left, or_right, nor-left, nor-right, both, and_left, and_right}
+use Rattle.theory.proofs.Tests.{by_cond, decided, is_true, is_false, or_cases, or_left, or_right, nor-left, nor-right, and_left, and_right}
 use Rattle.theory.proofs.Removal.{removed-node, vacated}
 use Rattle.theory.proofs.Wellformed.{run-from, Permitted, Climbing, elsewhere, here, in_left, in_right, climbing, seated-climbing, is-left, Merged, Sound, at_leaf, at_node, run_sound, distinct_tail}
 use Rattle.theory.proofs.Follows.{committer-stays, message-done, message-refused, group-done, path, sends, next, path-climbs, by-change, now-permitted}
@@ -79,7 +80,7 @@ keyed-few k un t s g =
     let w = g.somebody.0 in
     let few = leaf_keys-few un s in
     let named =
-    named-few (w ∷ un) t (both (not (is_unmerged w un)) (distinct un) g.somebody.2 g.once)
+    named-few (w ∷ un) t (yes_and (not (is_unmerged w un)) (distinct un) g.somebody.2 g.once)
     (λ v u.
     elim (or_cases (eqb w v) (is_unmerged v un) u) [
       | inl e ↦ rw (← (eqb→eq w v e)) g.somebody.1
@@ -136,7 +137,7 @@ whole-view (suc d) (node (keyed k (w ∷ ws)) l r) h = absurd h
 pub whole-test : {K : Type 0} {d : ℕ} {t : Tree K} → Whole d t → T (whole d t)
 unfolding whole
 whole-test whole_leaf = tt
-whole-test (whole_node {d} {l} {r} a b) = both (whole d l) (whole d r) (whole-test a) (whole-test b)
+whole-test (whole_node {d} {l} {r} a b) = yes_and (whole d l) (whole d r) (whole-test a) (whole-test b)
 
 pub whole-resolution : {K : Type 0} {d : ℕ} {t : Tree K} → Whole d t → (k : K) × (resolution t ≡ k ∷ [])
 unfolding resolution leaf_keys

@@ -1,6 +1,6 @@
 -- Who stays, who comes and who commits works out all that it then holds.
 -- Assumes nothing.
-use Rattle.std.proofs.Common.{◌≡◌, ℕ, zero, suc, Bool, true, false, cond, not, ◌&&◌, ◌||◌, T, eqb, List, [], ◌∷◌, ◌++◌, sym, refl, ap, ◌∙◌, subst, inl, inr, eqb→eq, T_not, arith}
+use Rattle.std.proofs.Common.{◌≡◌, ℕ, zero, suc, Bool, true, false, cond, not, ◌&&◌, ◌||◌, T, eqb, List, [], ◌∷◌, ◌++◌, refl, ap, ◌∙◌, inl, inr, eqb→eq, T_not, arith}
 use mathlib.Core.Bool.{or-false}
 use mathlib.Core.List.Memᴰ
 use mathlib.Core.List.{Memᴰ}
@@ -12,11 +12,10 @@ use Rattle.theory.specs.Held.{is_unmerged, node_key_held, held}
 use Rattle.theory.specs.Group.{Change, renew, remove, add, Commit, Group, readied, newcomer, own_key, path_key, path_at, path_boxes, welcome, boxes_of, moved, allowed, committed, group, message, stock}
 use Rattle.theory.specs.Places.{Turn}
 use Rattle.theory.specs.Follow.{Follows, entering, Enters, Makes}
-use Rattle.theory.proofs.Tests.{decided, is_true, is_false, or_cases, or_left, or_right, nor-left, nor-right, and_right}
+use Rattle.theory.proofs.Tests.{decided, is_true, is_false, or_left, or_right, nor-left, nor-right, and_right}
 use Rattle.theory.proofs.Removal.{removed-node, seated-removed}
 use Rattle.theory.proofs.Addition.{Adding, adding, seated-adding}
 use Rattle.theory.proofs.Addition as adds
-use Rattle.theory.proofs.Growth.{grown-full, grown-roomy}
 use Rattle.theory.proofs.Wellformed.{Fine, renewal, removal, addition, Permitted, permitted, Climbing, elsewhere, here, in_left, in_right, climbing, seated-climbing, is-left, seated-grown}
 
 -- WHAT IS HELD, one level at a time.

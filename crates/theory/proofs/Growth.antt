@@ -1,9 +1,8 @@
 -- What growing does.
 -- Assumes nothing.
-use Rattle.std.proofs.Common.{◌≡◌, ℕ, not, T, List, [], ◌∷◌, Some, None, Option, refl, ap, ◌∙◌, T_not, arith}
-use lib.Dec.{not_T}
-use Rattle.theory.specs.Tree.{Tree, leaf, node, blank_parent, seated, full, leaves, position, or_else, blank_tree, grown}
-use Rattle.theory.specs.Places.{Turn, left, right, leaf_at, parent_at, sits, has_key}
+use Rattle.std.proofs.Common.{◌≡◌, ℕ, not, T, List, [], ◌∷◌, None, refl, arith}
+use Rattle.theory.specs.Tree.{Tree, leaf, node, blank_parent, seated, full, position, blank_tree, grown}
+use Rattle.theory.specs.Places.{Turn, left, right, leaf_at, parent_at, has_key}
 use Rattle.theory.specs.Laws.{Doubled, Growth}
 use Rattle.theory.proofs.Tests.{is_true, is_false, nor}
 use Rattle.theory.proofs.Places.{sits-seated}

@@ -1,14 +1,13 @@
 -- What holds of every group of a run: epochs count the commits, nobody sits twice, leaf keys are their owners', node keys come from levels of paths.
 -- Assumes nothing.
-use Rattle.std.proofs.Common.{◌≡◌, ℕ, zero, suc, ◌<◌, ◌≤◌, Bool, not, ◌||◌, T, leb, ◌⊎◌, is_some, sym, refl, ap, ◌∙◌, subst₂, inl, inr, arith, T_not}
-use lib.Dec.{not_T}
+use Rattle.std.proofs.Common.{◌≡◌, ℕ, zero, suc, ◌<◌, ◌≤◌, Bool, not, T, leb, ◌⊎◌, is_some, sym, refl, ap, ◌∙◌, subst₂, inl, inr, arith, T_not}
 use Rattle.std.proofs.lemmas.Bool.{cases_lt}
-use Rattle.theory.specs.Limits.{nobody, last_epoch}
-use Rattle.theory.specs.Secrets.{Secret, Purpose, drawn, leaf_key, path_secret, newcomer_key, up, lock, mix, seed, talk, ups}
+use Rattle.theory.specs.Limits.{last_epoch}
+use Rattle.theory.specs.Secrets.{Secret, Purpose, drawn, leaf_key, newcomer_key, up, lock, mix, seed, talk, ups}
 use Rattle.theory.specs.Tree.{Tree, seated, grown}
 use Rattle.theory.specs.Path.{Laid}
 use Rattle.theory.specs.Group.{Change, renew, remove, add, newcomer, Commit, Group, change_refusal, readied, own_key, path_key, path_at, moved, allowed, committed, group}
-use Rattle.theory.proofs.Tests.{by_cond, nor-left}
+use Rattle.theory.proofs.Tests.{by_cond}
 use Rattle.theory.proofs.Runs.{laying, run-keeps}
 use Rattle.theory.proofs.Level.{not-refused}
 use Rattle.theory.proofs.Own.{Has, here, has-seated, seated-has, Once, at_leaf, grown-has, added-has, removed-has, grown-once, removed-once, added-once, laying-once}

@@ -1,6 +1,6 @@
 -- What a handset holds, taken apart: its leaf key, and node keys at which it is merged.
 -- Assumes nothing.
-use Rattle.std.proofs.Common.{◌≡◌, ℕ, not, T, eqb, ◌⊎◌, List, sym, ◌∙◌, inl, inr, eqb→eq, arith}
+use Rattle.std.proofs.Common.{◌≡◌, ℕ, not, T, eqb, ◌⊎◌, List, sym, inl, inr, eqb→eq, arith}
 use mathlib.Core.List.Memᴰ
 use mathlib.Core.List.{Memᴰ}
 use Rattle.theory.specs.Secrets.{Secret, seed, talk}

@@ -1,11 +1,10 @@
 -- Where the node keys of a tree come from: a view of paths with their levels, `Path`; who sat below which level, `Had`;
 -- and what is kept of every node key, `Keyed`: those merged below it are those that its level was laid over.
 -- Assumes nothing.
-use Rattle.std.proofs.Common.{◌≡◌, ℕ, suc, ◌<◌, ◌≤◌, not, ◌||◌, T, eqb, ◌⊎◌, ◌↔◌, List, [], ◌∷◌, ◌++◌, sym, refl, ap, ◌∙◌, inl, inr, arith, eqb→eq, T_not}
+use Rattle.std.proofs.Common.{◌≡◌, ℕ, suc, ◌<◌, ◌≤◌, not, ◌||◌, T, eqb, ◌⊎◌, ◌↔◌, List, [], ◌∷◌, ◌++◌, sym, refl, inl, inr, arith, T_not}
 use mathlib.Core.List.Memᴰ
 use mathlib.Core.List.{Memᴰ}
-use lib.Dec.{not_T, eqb_refl}
-use Rattle.std.proofs.lemmas.Bool.{cases_lt}
+use lib.Dec.{not_T}
 use Rattle.theory.specs.Tree.{Tree, leaf, node, Leaf, blank_leaf, occupied, Parent, blank_parent, keyed, seated, full, leaf_keys, resolution, blank_tree, grown, added, removed}
 use Rattle.theory.specs.Path.{Target, Laid, sealed_to, parent_laid, level_after, laid}
 use Rattle.theory.specs.Held.{is_unmerged}
@@ -15,7 +14,6 @@ use Rattle.theory.proofs.Addition.{Adding, adding, added_full}
 use Rattle.theory.proofs.Addition as adds
 use Rattle.theory.proofs.Own.{Has, on_left, on_right, has-seated, key_has, Once, at_node, adding-has, has-adding}
 use Rattle.theory.proofs.Own as seats
-use Rattle.std.proofs.lemmas.Grind.{common_steps}
 
 -- m's path makes the second tree of the first, lays so many node keys, and has these targets
 pub data Path {K : Type 0} (m : ℕ) (own : K) (keys : ℕ → K) : Tree K → Tree K → ℕ → List (Target K) → Type 0 where
@@ -140,6 +138,7 @@ of-sealed :
 of-sealed {K} n ks x = grind (arith, Memᴰ.of_map)
 
 module _ {K : Type 0} {m : ℕ} {own : K} {keys : ℕ → K} {b : Target K} where
+  -- the halves are written out both times: the constructors of Path, Below and Has say which half it is
   pub path-target :
       {n : ℕ} {t u : Tree K} {ts : List (Target K)} (a : Path m own keys t u n ts) → Once t → Memᴰ b ts →
       Sealing m t b (Had a b.level)

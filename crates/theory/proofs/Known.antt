@@ -1,13 +1,13 @@
 -- What is computed is what can be worked out.
 -- Assumes nothing.
-use Rattle.std.proofs.Common.{◌≡◌, ℕ, zero, suc, ◌+◌, ◌<◌, ◌≤◌, not, ◌&&◌, T, eqb, ◌↔◌, List, [], ◌∷◌, ◌++◌, length, sym, refl, ap, ◌∙◌, ap₂, inl, inr, append_assoc, arith, eqb→eq, T_not}
+use Rattle.std.proofs.Common.{◌≡◌, ℕ, zero, suc, ◌+◌, ◌<◌, ◌≤◌, not, ◌&&◌, T, eqb, ◌↔◌, List, [], ◌∷◌, ◌++◌, length, sym, refl, ap, ◌∙◌, inl, inr, arith, T_not}
 use mathlib.Core.List.Memᴰ
 use mathlib.Core.List.{Memᴰ}
 use lib.Dec.{eqb_refl}
-use Rattle.std.proofs.lemmas.Bool.{cases_lt}
+use Rattle.std.proofs.Math.Facts.{yes_and}
 use Rattle.theory.specs.Secrets.{Purpose, leaf_key, path_secret, newcomer_key, init_key, first_epoch, Secret, drawn, up, lock, mix, seed, talk, Box, Knows, had, raise, locked, mixed, seeded, talked, opened}
 use Rattle.theory.specs.Known.{purpose_number, numbers, same_numbers, same, is_in, made, opens, rounds, KnownIs}
-use Rattle.theory.proofs.Tests.{decided, is_true, is_false, or_cases, or_left, or_right, both, and_left, and_right}
+use Rattle.theory.proofs.Tests.{decided, is_true, is_false, or_left, or_right}
 use Rattle.theory.proofs.Follows.{All, all_append, all_cons, all_nil}
 use Rattle.std.proofs.lemmas.Grind.{common_steps}
 
@@ -22,7 +22,7 @@ same-numbers (x ∷ xs) (y ∷ ys) h = grind (arith, same-numbers xs ys)
 numbers-same : (xs : List ℕ) → T (same_numbers xs xs)
 unfolding same_numbers
 numbers-same [] = tt
-numbers-same (x ∷ xs) = both (eqb x x) (same_numbers xs xs) (eqb_refl x) (numbers-same xs)
+numbers-same (x ∷ xs) = yes_and (eqb x x) (same_numbers xs xs) (eqb_refl x) (numbers-same xs)
 
 purpose_of : ℕ → Purpose
 purpose_of zero = leaf_key
@@ -136,7 +136,7 @@ unfolding made
 known-made {ks} {s} (had d) = made_in ks s (in_is d)
 known-made {ks} (raise {s} k) = or_right (is_in (up s) ks) (made ks s) (known-made k)
 known-made {ks} (locked {s} k) = or_right (is_in (lock s) ks) (made ks s) (known-made k)
-known-made {ks} (mixed {s} {t} k j) = search (or_right, both, known-made k, known-made j)
+known-made {ks} (mixed {s} {t} k j) = search (or_right, yes_and, known-made k, known-made j)
 known-made {ks} (seeded {s} k) = or_right (is_in (seed s) ks) (made ks s) (known-made k)
 known-made {ks} (talked {s} k) = or_right (is_in (talk s) ks) (made ks s) (known-made k)
 known-made (opened b d k) = absurd (Memᴰ.not-nil d)

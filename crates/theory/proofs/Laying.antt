@@ -1,11 +1,12 @@
 -- What a path does to leaves and parents, by a view of it: `From`.
 -- Assumes nothing.
-use Rattle.std.proofs.Common.{◌≡◌, ℕ, ◌<◌, T, List, [], ◌∷◌, Some, refl, ap, arith, T_not}
-use Rattle.theory.specs.Tree.{Tree, leaf, node, occupied, Parent, blank_parent, keyed, seated, resolution}
+use Rattle.std.proofs.Common.{◌≡◌, ℕ, T, List, [], ◌∷◌, Some, refl, arith, T_not}
+use Rattle.theory.specs.Tree.{Tree, leaf, node, occupied, Parent, seated, resolution}
 use Rattle.theory.specs.Path.{Target, parent_laid, level_after}
 use Rattle.theory.specs.Places.{Turn, left, right, leaf_at, parent_at, sits, Over, top, down, right_half, left_half, under_left, under_right}
 use Rattle.theory.specs.Laws.{AbovePath, OverMaker, SitsOnlyAt, PathLaid}
-use Rattle.theory.proofs.Places.{sits-seated, seated-sits}
+use Rattle.theory.proofs.Places.{sits-seated, seated-sits, Along, leaves_kept, parents-kept}
+use Rattle.theory.proofs.Places as along
 use Rattle.theory.proofs.Wellformed.{Climbing, climbing}
 use Rattle.theory.proofs.Wellformed as climbs
 
@@ -19,12 +20,6 @@ pub data From {K : Type 0} (m : ℕ) (own : K) (keys : ℕ → K) : Tree K → T
       {c : Parent K} {l r r' : Tree K} {i : ℕ} {p : List Turn} → From m own keys r r' i p →
       From m own keys (node c l r) (node (parent_laid keys i (resolution l)) l r') (level_after i (resolution l)) (right ∷ p)
 
-same_rest : {d : Turn} {q p : List Turn} → (d ∷ q) ≡ (d ∷ p) → q ≡ p
-same_rest e = cc
-
-other_way : {q p : List Turn} → (left ∷ q) ≡ (right ∷ p) → ⊥
-other_way e = let z : ◌≡◌ {A = ℕ} 0 1 = cc in omega arith
-
 module _ {K : Type 0} {m : ℕ} {own : K} {keys : ℕ → K} where
   pub from :
       {t u : Tree K} {i : ℕ} {ts : List (Target K)} → Climbing m own keys t u i ts →
@@ -34,12 +29,12 @@ module _ {K : Type 0} {m : ℕ} {own : K} {keys : ℕ → K} where
   from climbs.here [] s f = here
   from climbs.here (d ∷ p) s f = elim s [ ]
   from (climbs.in_left h a) [] s f = elim s [ ]
-  from (climbs.in_left h a) (left ∷ p) s f = in_left (from a p s (λ q x. same_rest (f (left ∷ q) x)))
+  from (climbs.in_left h a) (left ∷ p) s f = in_left (from a p s (λ q x. cc (f (left ∷ q) x)))
   from (climbs.in_left {l} h a) (right ∷ p) s f =
-      let x = seated-sits m l h in absurd (other_way (f (left ∷ x.0) x.1))
+      let x = seated-sits m l h in cc (f (left ∷ x.0) x.1)
   from (climbs.in_right h g a) [] s f = elim s [ ]
   from (climbs.in_right {l} h g a) (left ∷ p) s f = absurd (T_not (seated m l) h (sits-seated m p l s))
-  from (climbs.in_right h g a) (right ∷ p) s f = in_right (from a p s (λ q x. same_rest (f (right ∷ q) x)))
+  from (climbs.in_right h g a) (right ∷ p) s f = in_right (from a p s (λ q x. cc (f (right ∷ q) x)))
 
   from-leaf : {t u : Tree K} {i : ℕ} {p : List Turn} → From m own keys t u i p → leaf_at p u ≡ Some (occupied m own)
   unfolding leaf_at
@@ -47,31 +42,10 @@ module _ {K : Type 0} {m : ℕ} {own : K} {keys : ℕ → K} where
   from-leaf (in_left a) = from-leaf a
   from-leaf (in_right a) = from-leaf a
 
-  leaves_kept :
-      {t u : Tree K} {i : ℕ} {p : List Turn} → From m own keys t u i p → (q : List Turn) → (q ≡ p → ⊥) →
-      leaf_at q u ≡ leaf_at q t
-  unfolding leaf_at
-  leaves_kept here [] h = absurd (h refl)
-  leaves_kept here (d ∷ q) h = refl
-  leaves_kept (in_left a) [] h = refl
-  leaves_kept (in_left a) (left ∷ q) h = leaves_kept a q (λ e. h (ap (λ w. left ∷ w) e))
-  leaves_kept (in_left a) (right ∷ q) h = refl
-  leaves_kept (in_right a) [] h = refl
-  leaves_kept (in_right a) (left ∷ q) h = refl
-  leaves_kept (in_right a) (right ∷ q) h = leaves_kept a q (λ e. h (ap (λ w. right ∷ w) e))
-
-  parents-kept :
-      {t u : Tree K} {i : ℕ} {p : List Turn} → From m own keys t u i p → (q : List Turn) → (Over q p → ⊥) →
-      parent_at q u ≡ parent_at q t
-  unfolding parent_at
-  parents-kept here [] h = refl
-  parents-kept here (d ∷ q) h = refl
-  parents-kept (in_left a) [] h = absurd (h top)
-  parents-kept (in_left a) (left ∷ q) h = parents-kept a q (λ o. h (down o))
-  parents-kept (in_left a) (right ∷ q) h = refl
-  parents-kept (in_right a) [] h = absurd (h top)
-  parents-kept (in_right a) (left ∷ q) h = refl
-  parents-kept (in_right a) (right ∷ q) h = parents-kept a q (λ o. h (down o))
+  from-along : {t u : Tree K} {i : ℕ} {p : List Turn} → From m own keys t u i p → Along t u p
+  from-along here = along.here
+  from-along (in_left a) = along.in_left (from-along a)
+  from-along (in_right a) = along.in_right (from-along a)
 
   parents-above :
       {t u : Tree K} {i : ℕ} {p q : List Turn} → From m own keys t u i p → Over q p → AbovePath keys t u i p q
@@ -88,9 +62,9 @@ over-maker m own keys t p s =
     let a = from (climbing m own keys t) p s.0 s.1 in
     record {
       renewed = from-leaf a;
-      others = leaves_kept a;
+      others = leaves_kept (from-along a);
       above = λ q. parents-above a;
-      apart = parents-kept a;
+      apart = parents-kept (from-along a);
     }
 
 pub path_laid : PathLaid

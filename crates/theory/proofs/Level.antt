@@ -1,14 +1,14 @@
 -- Every tree of a run has all leaves at one depth, at most ten: a full tree of depth d has 2 ^ d members, and the last 1,024 seats are never outgrown.
 -- Assumes nothing.
-use Rattle.std.proofs.Common.{◌≡◌, ℕ, zero, suc, ◌^◌, ◌<◌, ◌≤◌, Bool, true, false, not, ◌||◌, T, leb, List, is_some, None, Option, refl, ap, inl, inr, arith, pow_mono}
-use lib.Dec.{nleb→lt}
+use Rattle.std.proofs.Common.{◌≡◌, ℕ, zero, suc, ◌^◌, ◌<◌, ◌≤◌, Bool, true, false, not, ◌||◌, T, leb, List, is_some, Option, refl, ap, inl, inr, arith, pow_mono}
 use Rattle.std.proofs.lemmas.Bool.{cases_lt}
-use Rattle.theory.specs.Limits.{max_depth, max_members, nobody, last_epoch}
+use Rattle.std.proofs.Math.Facts.{yes_and}
+use Rattle.theory.specs.Limits.{max_depth, max_members, last_epoch}
 use Rattle.theory.specs.Tree.{Tree, leaf, node, Leaf, Parent, is_blank, seated, full, members, height, is_level, blank_tree, grown, added, removed}
 use Rattle.theory.specs.Group.{Change, renew, remove, add, Commit, first_of, change_refusal, readied, group}
 use Rattle.theory.specs.Places.{Turn}
 use Rattle.theory.specs.Laws.{LevelKept}
-use Rattle.theory.proofs.Tests.{by_cond, decided, is_false, both, and_left, and_right}
+use Rattle.theory.proofs.Tests.{by_cond, decided, is_false}
 use Rattle.theory.proofs.Addition.{Adding, here, in_left, in_right, adding, added_full}
 use Rattle.theory.proofs.Growth.{grown-full, grown-roomy}
 use Rattle.theory.proofs.Runs.{Laying, laying, run-keeps}
@@ -22,7 +22,7 @@ pub data Level {K : Type 0} : ℕ → Tree K → Type 0 where
 pub level-test : {K : Type 0} {d : ℕ} {t : Tree K} → Level d t → T (is_level d t)
 unfolding is_level
 level-test at_leaf = tt
-level-test (at_node {d} {l} {r} a b) = both (is_level d l) (is_level d r) (level-test a) (level-test b)
+level-test (at_node {d} {l} {r} a b) = yes_and (is_level d l) (is_level d r) (level-test a) (level-test b)
 
 pub level-height : {K : Type 0} {d : ℕ} {t : Tree K} → Level d t → height t ≡ d
 unfolding height

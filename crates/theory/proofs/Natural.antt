@@ -1,10 +1,10 @@
 -- Every operation on trees commutes with a map of the keys.
 -- Assumes nothing.
-use Rattle.std.proofs.Common.{◌≡◌, ℕ, zero, suc, ◌+◌, Bool, true, false, cond, not, ◌&&◌, ◌||◌, eqb, List, [], ◌∷◌, ◌++◌, map, Some, None, sym, refl, ap, ◌∙◌, ap₂, arith}
+use Rattle.std.proofs.Common.{◌≡◌, ℕ, zero, suc, ◌+◌, Bool, true, false, cond, not, ◌&&◌, ◌||◌, List, [], ◌∷◌, map, Some, None, sym, refl, ap, ap₂, arith}
 use mathlib.Core.List.{map-append}
-use Rattle.theory.specs.Tree.{Tree, leaf, node, Leaf, blank_leaf, occupied, Parent, blank_parent, keyed, is_at, is_blank, key_at, seated, full, members, leaves, height, is_level, position, leaf_key, leaf_keys, resolution, blank_tree, grown, unmerged_at, added, removed}
-use Rattle.theory.specs.Path.{Laid, sealed_to, parent_laid, level_after, climbed, laid}
-use Rattle.theory.specs.Held.{is_unmerged, node_key_held, held, held_at}
+use Rattle.theory.specs.Tree.{Tree, leaf, node, Leaf, blank_leaf, occupied, Parent, blank_parent, keyed, is_at, is_blank, key_at, seated, full, members, leaves, height, is_level, position, leaf_key, leaf_keys, resolution, blank_tree, grown, added, removed}
+use Rattle.theory.specs.Path.{Laid, sealed_to, climbed, laid}
+use Rattle.theory.specs.Held.{held, held_at}
 use Rattle.theory.specs.Group.{Change, renew, remove, add, Commit, change_refusal, refusal, readied, laid_by}
 use Rattle.theory.specs.Wellformed.{distinct, all_seated, leaf_merged, some_merged, merges, leaf_apart, apart, consistent, leaf_numbered, numbered, well_formed}
 use Rattle.theory.specs.Natural.{map_leaf, map_parent, map_tree, map_target, map_laid, Natural, Naturality}

@@ -1,15 +1,16 @@
 -- What is computed is where a talk secret lies open.
 -- Assumes nothing.
-use Rattle.std.proofs.Common.{◌≡◌, ℕ, zero, suc, Bool, false, not, ◌&&◌, ◌||◌, T, eqb, List, [], ◌∷◌, refl, subst, ap₂, inl, inr, eqb→eq, T_not, arith}
+use Rattle.std.proofs.Common.{◌≡◌, ℕ, zero, suc, Bool, false, not, ◌&&◌, ◌||◌, T, eqb, List, [], ◌∷◌, refl, subst, inl, inr, eqb→eq, T_not, arith}
 use mathlib.Core.List.{Memᴰ}
 use lib.Dec.{not_T, eqb_refl}
+use Rattle.std.proofs.Math.Facts.{yes_and}
 use Rattle.theory.specs.Secrets.{Secret}
-use Rattle.theory.specs.Tree.{seated, leaf_key}
+use Rattle.theory.specs.Tree.{seated}
 use Rattle.theory.specs.Group.{Commit, group, allowed}
 use Rattle.theory.specs.Promise.{Exposure, Gives, Open, here, on, idle}
 use Rattle.theory.specs.Known.{same}
 use Rattle.theory.specs.Opened.{same_secrets, read_in, some_read, is_given, some_given, is_open, OpenIs}
-use Rattle.theory.proofs.Tests.{or_cases, or_left, or_right, both, and_left, and_right}
+use Rattle.theory.proofs.Tests.{or_cases, or_left, or_right, and_left, and_right}
 use Rattle.theory.proofs.Known.{same-is, same_refl}
 
 same-secrets : (ss ts : List Secret) → T (same_secrets ss ts) → ss ≡ ts
@@ -22,7 +23,7 @@ same-secrets (s ∷ ss) (t ∷ ts) h = search (same-is, and_left, and_right, sam
 secrets-same : (ss : List Secret) → T (same_secrets ss ss)
 unfolding same_secrets
 secrets-same [] = tt
-secrets-same (s ∷ ss) = both (same s s) (same_secrets ss ss) (same_refl s) (secrets-same ss)
+secrets-same (s ∷ ss) = yes_and (same s s) (same_secrets ss ss) (same_refl s) (secrets-same ss)
 
 -- a test that some item of a list passes
 module _ {X : Type 0} (test : X → Bool) (some : List X → Bool) (none : some [] ≡ false) (more : (x : X) (xs : List X) → some (x ∷ xs) ≡ (test x || some xs)) where
@@ -61,7 +62,7 @@ module _ (f : ℕ) (commits : ℕ → Commit) where
   unfolding some_read
   open-read es n x m s e =
       finds (read_in f commits n) (some_read f commits n) refl (λ x xs. refl) m
-      (both (seated x.who (group f commits x.when).tree) (eqb (group f commits x.when).epoch (group f commits n).epoch) s
+      (yes_and (seated x.who (group f commits x.when).tree) (eqb (group f commits x.when).epoch (group f commits n).epoch) s
       (subst (λ k. T (eqb (group f commits x.when).epoch k)) e (eqb_refl (group f commits x.when).epoch)))
 
   -- both ways
@@ -91,9 +92,9 @@ module _ (f : ℕ) (commits : ℕ → Commit) where
   open_is {es} (on {n} o x m v) =
       let refused = not (allowed (commits n) (group f commits n)) in
       or_right (some_read f commits (suc n) es) (is_open f commits es n && (some_given f commits n es || refused))
-      (both (is_open f commits es n) (some_given f commits n es || refused) (open_is o)
+      (yes_and (is_open f commits es n) (some_given f commits n es || refused) (open_is o)
       (or_left (some_given f commits n es) refused (finds (is_given f commits n) (some_given f commits n) refl (λ x xs. refl) m (given_is n x v))))
-  open_is {es} (idle {n} o r) = search (or_right, both, not_T, open_is o)
+  open_is {es} (idle {n} o r) = search (or_right, yes_and, not_T, open_is o)
 
 pub opened_is : OpenIs
 opened_is f commits es n = (is_open-sound f commits es n, open_is f commits)

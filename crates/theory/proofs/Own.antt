@@ -1,6 +1,6 @@
 -- Who sits in a tree with which leaf key, and that nobody sits twice: what each change makes of that.
 -- Assumes nothing.
-use Rattle.std.proofs.Common.{◌≡◌, ℕ, ◌≤◌, not, T, eqb, ◌⊎◌, List, [], ◌∷◌, ◌++◌, length, sym, refl, ap, ap₂, inl, inr, arith, eqb→eq, T_not}
+use Rattle.std.proofs.Common.{◌≡◌, ℕ, ◌≤◌, not, T, eqb, ◌⊎◌, List, [], ◌∷◌, length, sym, refl, ap, inl, inr, arith, eqb→eq, T_not}
 use mathlib.Core.List.Memᴰ
 use mathlib.Core.List.{Memᴰ}
 use lib.Dec.{not_T, eqb_refl}

@@ -1,8 +1,8 @@
 -- Places and who sits at them.
 -- Assumes nothing.
-use Rattle.std.proofs.Common.{ℕ, T, List, [], ◌∷◌, inl, inr}
-use Rattle.theory.specs.Tree.{Tree, leaf, node, Parent, seated}
-use Rattle.theory.specs.Places.{Turn, left, right, leaf_at, sits, Over, top}
+use Rattle.std.proofs.Common.{◌≡◌, ℕ, T, List, [], ◌∷◌, refl, ap, inl, inr}
+use Rattle.theory.specs.Tree.{Tree, leaf, node, Leaf, Parent, seated}
+use Rattle.theory.specs.Places.{Turn, left, right, leaf_at, parent_at, sits, Over, top, down}
 use Rattle.theory.proofs.Tests.{or_left, or_right, or_cases}
 
 -- who sits at a place is seated
@@ -34,3 +34,32 @@ seated-below m c l r h =
       | inl a ↦ (left ∷ (seated-sits m l a).0, top, (seated-sits m l a).1)
       | inr b ↦ (right ∷ (seated-sits m r b).0, top, (seated-sits m r b).1)
     ]
+
+-- the two trees differ only along the path down to the leaf at a place
+pub data Along {K : Type 0} : Tree K → Tree K → List Turn → Type 0 where
+  here : {x y : Leaf K} → Along (leaf x) (leaf y) []
+  in_left : {c d : Parent K} {l l' r : Tree K} {p : List Turn} → Along l l' p → Along (node c l r) (node d l' r) (left ∷ p)
+  in_right : {c d : Parent K} {l r r' : Tree K} {p : List Turn} → Along r r' p → Along (node c l r) (node d l r') (right ∷ p)
+
+pub leaves_kept : {K : Type 0} {t u : Tree K} {p : List Turn} → Along t u p → (q : List Turn) → (q ≡ p → ⊥) → leaf_at q u ≡ leaf_at q t
+unfolding leaf_at
+leaves_kept here [] h = absurd (h refl)
+leaves_kept here (d ∷ q) h = refl
+leaves_kept (in_left a) [] h = refl
+leaves_kept (in_left a) (left ∷ q) h = leaves_kept a q (λ e. h (ap (λ w. left ∷ w) e))
+leaves_kept (in_left a) (right ∷ q) h = refl
+leaves_kept (in_right a) [] h = refl
+leaves_kept (in_right a) (left ∷ q) h = refl
+leaves_kept (in_right a) (right ∷ q) h = leaves_kept a q (λ e. h (ap (λ w. right ∷ w) e))
+
+pub parents-kept :
+    {K : Type 0} {t u : Tree K} {p : List Turn} → Along t u p → (q : List Turn) → (Over q p → ⊥) → parent_at q u ≡ parent_at q t
+unfolding parent_at
+parents-kept here [] h = refl
+parents-kept here (d ∷ q) h = refl
+parents-kept (in_left a) [] h = absurd (h top)
+parents-kept (in_left a) (left ∷ q) h = parents-kept a q (λ o. h (down o))
+parents-kept (in_left a) (right ∷ q) h = refl
+parents-kept (in_right a) [] h = absurd (h top)
+parents-kept (in_right a) (left ∷ q) h = refl
+parents-kept (in_right a) (right ∷ q) h = parents-kept a q (λ o. h (down o))

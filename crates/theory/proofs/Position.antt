@@ -1,10 +1,10 @@
 -- Where a position lies.
 -- Assumes nothing.
-use Rattle.std.proofs.Common.{◌≡◌, ℕ, not, T, ◌↔◌, List, [], ◌∷◌, Some, None, Option, sym, refl, T_not}
+use Rattle.std.proofs.Common.{◌≡◌, ℕ, not, T, ◌↔◌, List, [], ◌∷◌, Some, None, Option, refl, T_not}
 use Rattle.theory.specs.Tree.{Tree, leaf, node, Parent, is_at, seated, leaves, position, or_else}
 use Rattle.theory.specs.Places.{Turn, left, right, leaf_at, sits, leaves_before}
 use Rattle.theory.specs.Laws.{Positioned, PositionIs}
-use Rattle.theory.proofs.Tests.{by_cond, nor, same_some, none-some}
+use Rattle.theory.proofs.Tests.{by_cond, nor}
 use Rattle.theory.proofs.Places.{sits-seated}
 
 -- m isn't seated, or has a place and as many leaves before it as its position says
@@ -28,13 +28,13 @@ found m (node c l r) = found-node m c l r (found m l) (found m r)
 found_at :
     {K : Type 0} {m : ℕ} {t : Tree K} {o : Option ℕ} → Found m t o → (i : ℕ) → o ≡ Some i →
     (p : List Turn) × T (sits m p t) × (leaves_before p t ≡ i)
-found_at (nowhere h) i e = absurd (none-some e)
-found_at (at p s) i e = (p, s, same_some e)
+found_at (nowhere h) i e = cc
+found_at (at p s) i e = (p, s, cc)
 
 found_none : {K : Type 0} {m : ℕ} {t : Tree K} {o : Option ℕ} → Found m t o → (o ≡ None) ↔ T (not (seated m t))
 found_none (nowhere h) = (λ _. h, λ _. refl)
 found_none {m} {t} (at p s) =
-    (λ e. absurd (none-some (sym e)), λ n. absurd (T_not (seated m t) n (sits-seated m p t s)))
+    (λ e. cc, λ n. absurd (T_not (seated m t) n (sits-seated m p t s)))
 
 pub positioned : {K : Type 0} (m : ℕ) (t : Tree K) → Positioned m t
 positioned m t = record { there = found_at (found m t); none = found_none (found m t) }

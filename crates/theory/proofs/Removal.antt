@@ -1,13 +1,13 @@
 -- What a removal does to leaves and parents.
 -- Assumes nothing.
-use Rattle.std.proofs.Common.{◌≡◌, ℕ, Bool, true, false, cond, not, ◌&&◌, ◌||◌, T, eqb, List, [], ◌∷◌, Some, None, Option, sym, refl, ◌∙◌, ap₂, inl, inr, arith, T_not}
+use Rattle.std.proofs.Common.{◌≡◌, ℕ, Bool, true, false, cond, not, ◌&&◌, ◌||◌, T, eqb, List, [], ◌∷◌, Some, None, Option, refl, ◌∙◌, arith, T_not}
 use mathlib.Core.Bool.{and-false}
 use lib.Dec.{not_T, eqb_refl}
 use Rattle.std.specs.Option.{option_map}
 use Rattle.theory.specs.Tree.{Tree, leaf, node, Leaf, blank_leaf, occupied, Parent, blank_parent, is_at, seated, removed}
 use Rattle.theory.specs.Places.{Turn, left, right, leaf_at, parent_at, sits, is_there, Over, top, down}
 use Rattle.theory.specs.Laws.{Without, Removal}
-use Rattle.theory.proofs.Tests.{decided, is_true, is_false, nor-left, nor-right}
+use Rattle.theory.proofs.Tests.{is_true, is_false}
 use Rattle.theory.proofs.Places.{sits-seated, seated-below}
 
 -- a leaf without m

@@ -1,12 +1,12 @@
 -- The resolution of a part is empty exactly if nobody is seated there: in every tree of a run each key has somebody below it.
 -- Assumes nothing.
-use Rattle.std.proofs.Common.{◌≡◌, ℕ, ◌||◌, T, List, [], ◌∷◌, ◌++◌, Some, refl, ap₂, inl, inr, arith}
+use Rattle.std.proofs.Common.{◌≡◌, ℕ, ◌||◌, T, List, [], ◌∷◌, ◌++◌, Some, refl, inl, inr, arith}
 use lib.Dec.{eqb_refl}
 use Rattle.theory.specs.Tree.{Tree, leaf, node, Leaf, blank_leaf, occupied, Parent, blank_parent, keyed, seated, full, resolution, blank_tree, grown, added, removed}
 use Rattle.theory.specs.Group.{Change, renew, remove, add, readied}
 use Rattle.theory.specs.Places.{Turn, has_key, Below, whole, in_left, in_right}
 use Rattle.theory.specs.Laws.{Deserted, ResolutionEmpty}
-use Rattle.theory.proofs.Tests.{by_cond, decided, or_cases, or_left, or_right}
+use Rattle.theory.proofs.Tests.{by_cond, decided, or_left, or_right}
 use Rattle.theory.proofs.Addition.{Adding, adding, added_full}
 use Rattle.theory.proofs.Addition as adds
 use Rattle.theory.proofs.Runs.{Laying, laying, seated-laying, run-keeps}

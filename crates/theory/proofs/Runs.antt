@@ -4,7 +4,7 @@ use Rattle.std.proofs.Common.{◌≡◌, ℕ, zero, suc, not, ◌||◌, T, eqb, 
 use Rattle.theory.specs.Secrets.{Secret}
 use Rattle.theory.specs.Tree.{Tree, leaf, node, blank_leaf, occupied, Parent, seated}
 use Rattle.theory.specs.Path.{Laid, laid}
-use Rattle.theory.specs.Group.{Commit, Group, refusal, laid_by, allowed, committed, group}
+use Rattle.theory.specs.Group.{Commit, refusal, laid_by, committed, group}
 use Rattle.theory.proofs.Tests.{by_cond, nor}
 
 -- a run: what holds of a founder's tree, and is kept by every commit that isn't refused, holds of every tree

@@ -7,7 +7,7 @@ use mathlib.Core.List.{Memᴰ}
 use Rattle.theory.specs.Secrets.{Secret, drawn, leaf_key, path_secret, newcomer_key, init_key, first_epoch, up, lock, mix, seed, talk, ups, Box, Knows, had, raise, locked, mixed, seeded, talked, opened}
 use Rattle.theory.specs.Tree.{Tree, seated, resolution}
 use Rattle.theory.specs.Path.{Target}
-use Rattle.theory.specs.Group.{Change, renew, remove, add, Commit, Group, path_key, path_boxes, welcome, group, stock}
+use Rattle.theory.specs.Group.{Change, renew, remove, add, Commit, path_key, path_boxes, welcome, group, stock}
 use Rattle.theory.specs.Promise.{Exposure, stocks, Gives, Open, here, on, idle, Main}
 use Rattle.theory.proofs.Own.{Has, has-seated, has-below, once-keys}
 use Rattle.theory.proofs.Keys.{had-up, had-has, path-target, Keyed, keyed-below, resolution-cases}

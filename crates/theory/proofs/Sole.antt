@@ -1,7 +1,6 @@
 -- Nobody sits twice, and no leaf key is ever another's.
 -- Assumes nothing.
-use Rattle.std.proofs.Common.{sym, ◌∙◌, arith}
-use Rattle.theory.specs.Group.{group}
+use Rattle.std.proofs.Common.{arith}
 use Rattle.theory.specs.Promise.{Sole, OwnFresh}
 use Rattle.theory.proofs.Own.{key_has, once-length}
 use Rattle.theory.proofs.History.{run-once, run-owns, owns-owner}

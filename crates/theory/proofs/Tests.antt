@@ -1,6 +1,6 @@
--- Tests, `cond` and options.
+-- Tests and `cond`.
 -- Assumes nothing.
-use Rattle.std.proofs.Common.{◌≡◌, ℕ, Bool, true, false, cond, not, ◌&&◌, ◌||◌, T, ◌⊎◌, Some, None, refl, inl, inr, arith}
+use Rattle.std.proofs.Common.{◌≡◌, Bool, true, false, cond, not, ◌&&◌, ◌||◌, T, ◌⊎◌, refl, inl, inr}
 
 -- what holds of both branches holds of a `cond`
 pub by_cond : {A : Type 0} (P : A → Type 0) (b : Bool) (x y : A) → (T b → P x) → (T (not b) → P y) → P (cond b x y)
@@ -43,10 +43,6 @@ pub nor-right : (a b : Bool) → T (not (a || b)) → T (not b)
 nor-right true b h = elim h [ ]
 nor-right false b h = h
 
-pub both : (a b : Bool) → T a → T b → T (a && b)
-both true b h k = k
-both false b h k = h
-
 pub and_left : (a b : Bool) → T (a && b) → T a
 and_left true b h = tt
 and_left false b h = h
@@ -58,9 +54,3 @@ and_right false b h = elim h [ ]
 pub nand-right : (a b : Bool) → T a → T (not (a && b)) → T (not b)
 nand-right true b h k = k
 nand-right false b h k = elim h [ ]
-
-pub same_some : {A : Type 0} {x y : A} → Some x ≡ Some y → x ≡ y
-same_some e = cc
-
-pub none-some : {A : Type 0} {x : A} → None ≡ Some x → ⊥
-none-some e = let z : ◌≡◌ {A = ℕ} 0 1 = cc in omega arith

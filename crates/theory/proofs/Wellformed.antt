@@ -1,8 +1,9 @@
 -- What is asked of a tree holds of every tree of a run, by an invariant on trees: `Sound`; and a view of the path that a commit lays: `Climbing`.
 -- Assumes nothing.
-use Rattle.std.proofs.Common.{◌≡◌, ℕ, zero, suc, ◌<◌, Bool, true, false, not, ◌&&◌, ◌||◌, T, eqb, leb, ◌↔◌, List, [], ◌∷◌, ◌++◌, is_some, Some, None, Option, sym, refl, ap, inl, inr, arith, eqb→eq, ltb→lt, lt→ltb, T_not}
-use mathlib.Core.Bool.{or-false, or_assoc, or_comm}
+use Rattle.std.proofs.Common.{◌≡◌, ℕ, zero, suc, ◌<◌, Bool, not, ◌&&◌, ◌||◌, T, eqb, leb, ◌↔◌, List, [], ◌∷◌, ◌++◌, is_some, Some, None, Option, sym, refl, ap, inl, inr, arith, eqb→eq, ltb→lt, lt→ltb, T_not}
+use mathlib.Core.Bool.{or_assoc}
 use lib.Dec.{not_T, eqb_refl, nleb→lt}
+use Rattle.std.proofs.Math.Facts.{T_not-not, yes_and}
 use Rattle.theory.specs.Limits.{max_members, nobody, last_epoch}
 use Rattle.theory.specs.Secrets.{Secret}
 use Rattle.theory.specs.Tree.{Tree, leaf, node, Leaf, blank_leaf, occupied, Parent, blank_parent, keyed, seated, full, members, resolution, blank_tree, grown, unmerged_at, added, removed}
@@ -11,11 +12,12 @@ use Rattle.theory.specs.Held.{is_unmerged}
 use Rattle.theory.specs.Group.{Change, renew, remove, add, Commit, Group, first_of, change_refusal, refusal, readied, laid_by, allowed, committed, group}
 use Rattle.theory.specs.Places.{Turn, left, right, leaf_at, parent_at, sits, Over, down}
 use Rattle.theory.specs.Wellformed.{distinct, all_seated, some_merged, merges, apart, consistent, numbered, well_formed, Merging, Consistent, WellFormed, WellFormedIs, WellFormedKept, Distinct}
-use Rattle.theory.proofs.Tests.{nor-left, nor-right, by_cond, decided, is_false, or_cases, or_left, or_right, nor, both, and_left, and_right, none-some}
+use Rattle.theory.proofs.Tests.{nor-left, nor-right, by_cond, decided, or_cases, or_left, or_right, nor, and_left, and_right}
 use Rattle.theory.proofs.Places.{sits-seated, seated-sits, seated-below}
 use Rattle.theory.proofs.Removal.{seated-removed}
-use Rattle.theory.proofs.Addition.{Adding, adding, added_full, seated-adding}
+use Rattle.theory.proofs.Addition.{Adding, adding, added_full, or-last, seated-adding}
 use Rattle.theory.proofs.Addition as adds
+use Rattle.theory.proofs.Level.{not-refused}
 use Rattle.theory.proofs.Growth.{grown-full, grown-roomy, blank-deserted}
 use Rattle.theory.proofs.Runs.{Laying, seated-laying}
 use Rattle.theory.proofs.Runs as runs
@@ -32,19 +34,11 @@ pub record Permitted {K : Type 0} (e : ℕ) (c : Commit) (t : Tree K) : Type 0 w
   pub present : T (seated c.committer t)
   pub asked : Fine c.committer t c.change
 
-not-refused : (b : Bool) (n : ℕ) (o : Option ℕ) → T (not (is_some (first_of b n o))) → T (not b) × T (not (is_some o))
-not-refused true n o h = elim h [ ]
-not-refused false n o h = (tt, h)
-
-not-not : (b : Bool) → T (not (not b)) → T b
-not-not true h = tt
-not-not false h = h
-
 fine : {K : Type 0} (w : ℕ) (c : Change) (t : Tree K) → T (not (is_some (change_refusal w c t))) → Fine w t c
 fine w renew t h = renewal
 fine w (remove m) t h =
     let a = (not-refused (not (seated m t) || eqb m w) 4 None h).0 in
-    removal (not-not (seated m t) (nor-left (not (seated m t)) (eqb m w) a)) (nor-right (not (seated m t)) (eqb m w) a)
+    removal (T_not-not (seated m t) (nor-left (not (seated m t)) (eqb m w) a)) (nor-right (not (seated m t)) (eqb m w) a)
 fine w (add m) t h =
     let a = not-refused (seated m t || leb nobody m) 5 (first_of (leb max_members (members t)) 6 None) h in
     let d = not-refused (leb max_members (members t)) 6 None a.1 in
@@ -150,7 +144,7 @@ pub was-seated : {K : Type 0} (w m : ℕ) (t : Tree K) → T (seated w (removed 
 was-seated w m t h = and_left (seated w t) (not (eqb w m)) (rw (seated-removed w m t) at h)
 
 pub is-left : {K : Type 0} (w m : ℕ) (t : Tree K) → T (seated w t) → T (not (eqb w m)) → T (seated w (removed m t))
-is-left w m t h n = rw (seated-removed w m t) (both (seated w t) (not (eqb w m)) h n)
+is-left w m t h n = rw (seated-removed w m t) (yes_and (seated w t) (not (eqb w m)) h n)
 
 pub removed-sound : {K : Type 0} (m : ℕ) {t : Tree K} → Sound t → Sound (removed m t)
 unfolding removed
@@ -168,10 +162,6 @@ unfolding is_unmerged distinct
 coming m blank_parent who then h e s = tt
 coming m (keyed k un) who then h e s = grind arith
 
-or_swap : (a b c : Bool) → ((a || c) || b) ≡ ((a || b) || c)
-or_swap true b c = refl
-or_swap false b c = or_comm c b
-
 module _ {K : Type 0} {m : ℕ} {k : K} where
   pub adding-sound : {t u : Tree K} {p : List Turn} → Adding m k t u p → T (not (seated m t)) → Sound t → Sound u
   unfolding seated
@@ -184,7 +174,7 @@ module _ {K : Type 0} {m : ℕ} {k : K} where
         | inr z ↦ T_not (seated m r) (nor-right (seated m l) (seated m r) h) (rw (eqb→eq m w z) y)
       ])
       (coming m c (λ w. seated w l || seated w r) (λ w. seated w l' || seated w r) h
-      (λ w. rw (seated-adding a w) (or_swap (seated w l) (seated w r) (eqb m w))) g)
+      (λ w. rw (seated-adding a w) (or-last (seated w l) (seated w r) (eqb m w))) g)
       (adding-sound a (nor-left (seated m l) (seated m r) h) p) q
   adding-sound (adds.in_right {c} {l} {r} {r'} v a) h (at_node f g p q) =
       at_node {l = l} {r = r'}
@@ -291,7 +281,7 @@ seated-all (v ∷ ws) t h w u = grind (arith, seated-all ws t)
 all-seated : {K : Type 0} (ws : List ℕ) (t : Tree K) → ((w : ℕ) → T (is_unmerged w ws) → T (seated w t)) → T (all_seated ws t)
 unfolding all_seated is_unmerged
 all-seated [] t h = tt
-all-seated (v ∷ ws) t h = search (both, or_left, eqb_refl, or_right, all-seated ws t)
+all-seated (v ∷ ws) t h = search (yes_and, or_left, eqb_refl, or_right, all-seated ws t)
 
 some-merged :
     {K : Type 0} (un : List ℕ) (t : Tree K) → T (some_merged un t) → (w : ℕ) × T (seated w t) × T (not (is_unmerged w un))
@@ -316,7 +306,7 @@ all_apart : {K : Type 0} (l r : Tree K) → Apart l r → T (apart l r)
 unfolding apart seated
 all_apart (leaf blank_leaf) r h = tt
 all_apart (leaf (occupied v k)) r h = not_T (seated v r) (h v (eqb_refl v))
-all_apart (node p x y) r h = search (both, or_left, or_right, all_apart x r, all_apart y r)
+all_apart (node p x y) r h = search (yes_and, or_left, or_right, all_apart x r, all_apart y r)
 
 merging-sound : {K : Type 0} (c p : Parent K) (l r : Tree K) → T (merges c (node p l r)) → ParentSound c (λ w. seated w l || seated w r)
 unfolding seated
@@ -333,7 +323,7 @@ merging-sound (keyed k un) p l r h =
 sound-merging : {K : Type 0} (c p : Parent K) (l r : Tree K) → ParentSound c (λ w. seated w l || seated w r) → T (merges c (node p l r))
 unfolding seated
 sound-merging blank_parent p l r s = tt
-sound-merging (keyed k un) p l r s = search (both, all-seated, merged_some)
+sound-merging (keyed k un) p l r s = search (yes_and, all-seated, merged_some)
 
 -- the test gives the invariant
 pub consistent-sound : {K : Type 0} (t : Tree K) → T (consistent t) → Sound t
@@ -351,7 +341,7 @@ consistent-sound (node p l r) h =
 pub sound-consistent : {K : Type 0} {t : Tree K} → Sound t → T (consistent t)
 unfolding consistent
 sound-consistent at_leaf = tt
-sound-consistent (at_node {c} {l} {r} f g p q) = search (both, all_apart, sound-merging, sound-consistent p, sound-consistent q)
+sound-consistent (at_node {c} {l} {r} f g p q) = search (yes_and, all_apart, sound-merging, sound-consistent p, sound-consistent q)
 
 pub numbered-all : {K : Type 0} (t : Tree K) → T (numbered t) → Numbered t
 unfolding numbered seated
@@ -363,10 +353,10 @@ pub all-numbered : {K : Type 0} (t : Tree K) → Numbered t → T (numbered t)
 unfolding numbered seated
 all-numbered (leaf blank_leaf) h = tt
 all-numbered (leaf (occupied v k)) h = lt→ltb v nobody (h v (eqb_refl v))
-all-numbered (node p l r) h = search (both, or_left, or_right, all-numbered l, all-numbered r)
+all-numbered (node p l r) h = search (yes_and, or_left, or_right, all-numbered l, all-numbered r)
 
 pub well-formed-kept : WellFormedKept
-well-formed-kept f commits n = search (sound-consistent, run_sound, both, all-numbered, run-numbered)
+well-formed-kept f commits n = search (sound-consistent, run_sound, yes_and, all-numbered, run-numbered)
 
 -- THE FACTS, in the words of places.
 pub sound-sole :
@@ -386,13 +376,25 @@ sound-sole (at_node f g x y) m (right ∷ p) (right ∷ q) a b = ap (λ w. right
 abbrev pub SitsBelow : {K : Type 0} → ℕ → List Turn → Tree K → Type 0
 SitsBelow w q t = (p : List Turn) × Over q p × T (sits w p t)
 
-deeper-left : {K : Type 0} (c : Parent K) (l r : Tree K) (w : ℕ) (q : List Turn) → SitsBelow w q l → SitsBelow w (left ∷ q) (node c l r)
-unfolding leaf_at
-deeper-left c l r w q s = (left ∷ s.0, down s.1, s.2)
+-- the half of a parent that a turn leads into, and what lies there
+abbrev half : {K : Type 0} → Turn → Tree K → Tree K → Tree K
+half left l r = l
+half right l r = r
 
-deeper-right : {K : Type 0} (c : Parent K) (l r : Tree K) (w : ℕ) (q : List Turn) → SitsBelow w q r → SitsBelow w (right ∷ q) (node c l r)
+leaf-half : {K : Type 0} (d : Turn) (p : List Turn) (c : Parent K) (l r : Tree K) → leaf_at (d ∷ p) (node c l r) ≡ leaf_at p (half d l r)
 unfolding leaf_at
-deeper-right c l r w q s = (right ∷ s.0, down s.1, s.2)
+leaf-half left p c l r = refl
+leaf-half right p c l r = refl
+
+parent-half : {K : Type 0} (d : Turn) (p : List Turn) (c : Parent K) (l r : Tree K) → parent_at (d ∷ p) (node c l r) ≡ parent_at p (half d l r)
+unfolding parent_at
+parent-half left p c l r = refl
+parent-half right p c l r = refl
+
+deeper :
+    {K : Type 0} (d : Turn) (c : Parent K) (l r : Tree K) (w : ℕ) (q : List Turn) → SitsBelow w q (half d l r) →
+    SitsBelow w (d ∷ q) (node c l r)
+deeper d c l r w q s = (d ∷ s.0, down s.1, rw (leaf-half d s.0 c l r) s.2)
 
 blank-keyed : {K : Type 0} {b : K} {vs : List ℕ} → ◌≡◌ {A = Option (Parent K)} (Some blank_parent) (Some (keyed b vs)) → ⊥
 blank-keyed e = let z : ◌≡◌ {A = ℕ} 0 1 = cc in omega arith
@@ -407,65 +409,34 @@ top-merging (keyed j vs) l r s k un e = grind (arith, seated-below)
 pub sound-merging-at :
     {K : Type 0} {t : Tree K} → Sound t → (q : List Turn) (k : K) (un : List ℕ) → parent_at q t ≡ Some (keyed k un) → Merging q un t
 unfolding parent_at
-sound-merging-at at_leaf [] k un e = absurd (none-some e)
-sound-merging-at at_leaf (d ∷ q) k un e = absurd (none-some e)
+sound-merging-at at_leaf [] k un e = cc
+sound-merging-at at_leaf (d ∷ q) k un e = cc
 sound-merging-at (at_node {c} {l} {r} f g x y) [] k un e = top-merging c l r g k un e
-sound-merging-at (at_node {c} {l} {r} f g x y) (left ∷ q) k un e = grind (arith, deeper-left, sound-merging-at x q k un e)
-sound-merging-at (at_node {c} {l} {r} f g x y) (right ∷ q) k un e = grind (arith, deeper-right, sound-merging-at y q k un e)
+sound-merging-at (at_node {c} {l} {r} f g x y) (left ∷ q) k un e = grind (arith, deeper left c l r, sound-merging-at x q k un e)
+sound-merging-at (at_node {c} {l} {r} f g x y) (right ∷ q) k un e = grind (arith, deeper right c l r, sound-merging-at y q k un e)
 
 pub sound-facts : {K : Type 0} {t : Tree K} → Sound t → Consistent t
 sound-facts s = record { sole = sound-sole s; merging = sound-merging-at s }
 
 -- and back: a tree with these facts is sound
-higher-left :
-    {K : Type 0} (c : Parent K) (l r : Tree K) (w : ℕ) (q : List Turn) {p : List Turn} → Over (left ∷ q) p → T (sits w p (node c l r)) →
-    SitsBelow w q l
-unfolding leaf_at
-higher-left c l r w q (down {p} o) s = (p, o, s)
+higher :
+    {K : Type 0} (d : Turn) (c : Parent K) (l r : Tree K) (w : ℕ) (q : List Turn) {p : List Turn} → Over (d ∷ q) p →
+    T (sits w p (node c l r)) → SitsBelow w q (half d l r)
+higher d c l r w q (down {p} o) s = (p, o, rw (leaf-half d p c l r) at s)
 
-higher-right :
-    {K : Type 0} (c : Parent K) (l r : Tree K) (w : ℕ) (q : List Turn) {p : List Turn} → Over (right ∷ q) p → T (sits w p (node c l r)) →
-    SitsBelow w q r
-unfolding leaf_at
-higher-right c l r w q (down {p} o) s = (p, o, s)
-
-same_turn : {d : Turn} {p q : List Turn} → ◌≡◌ {A = List Turn} (d ∷ p) (d ∷ q) → p ≡ q
-same_turn e = cc
-
-turned : {p q : List Turn} → ◌≡◌ {A = List Turn} (left ∷ p) (right ∷ q) → ⊥
-turned e = let z : ◌≡◌ {A = ℕ} 0 1 = cc in omega arith
-
-facts-left : {K : Type 0} (c : Parent K) (l r : Tree K) → Consistent (node c l r) → Consistent l
-unfolding leaf_at parent_at
-facts-left c l r s =
+facts-half : {K : Type 0} (d : Turn) (c : Parent K) (l r : Tree K) → Consistent (node c l r) → Consistent (half d l r)
+facts-half d c l r s =
     record {
-      sole = λ m p q a b. same_turn (s.sole m (left ∷ p) (left ∷ q) a b);
+      sole = λ m p q a b. cc (s.sole m (d ∷ p) (d ∷ q) (rw (leaf-half d p c l r) a) (rw (leaf-half d q c l r) b));
       merging =
           λ q k un e.
-          let m = s.merging (left ∷ q) k un e in
+          let m = s.merging (d ∷ q) k un (rw (parent-half d q c l r) e) in
           record {
             once = m.once;
-            below = λ w u. let b = m.below w u in higher-left c l r w q b.1 b.2;
+            below = λ w u. let b = m.below w u in higher d c l r w q b.1 b.2;
             somebody =
                 let b = m.somebody in
-                (b.0, b.1, higher-left c l r b.0 q b.2.1 b.2.2);
-          };
-    }
-
-facts-right : {K : Type 0} (c : Parent K) (l r : Tree K) → Consistent (node c l r) → Consistent r
-unfolding leaf_at parent_at
-facts-right c l r s =
-    record {
-      sole = λ m p q a b. same_turn (s.sole m (right ∷ p) (right ∷ q) a b);
-      merging =
-          λ q k un e.
-          let m = s.merging (right ∷ q) k un e in
-          record {
-            once = m.once;
-            below = λ w u. let b = m.below w u in higher-right c l r w q b.1 b.2;
-            somebody =
-                let b = m.somebody in
-                (b.0, b.1, higher-right c l r b.0 q b.2.1 b.2.2);
+                (b.0, b.1, higher d c l r b.0 q b.2.1 b.2.2);
           };
     }
 
@@ -492,9 +463,9 @@ facts-sound (node c l r) s =
     (λ w a b.
     let p = seated-sits w l a in
     let q = seated-sits w r b in
-    turned (s.sole w (left ∷ p.0) (right ∷ q.0) p.1 q.1))
+    cc (s.sole w (left ∷ p.0) (right ∷ q.0) p.1 q.1))
     (facts-top c c l r (s.merging []))
-    (facts-sound l (facts-left c l r s)) (facts-sound r (facts-right c l r s))
+    (facts-sound l (facts-half left c l r s)) (facts-sound r (facts-half right c l r s))
 
 pub well-formed-facts : {K : Type 0} (t : Tree K) → T (well_formed t) ↔ WellFormed t
 well-formed-facts t = (
@@ -503,7 +474,7 @@ well-formed-facts t = (
         numbers = numbered-all t (and_left (numbered t) (consistent t) h);
         consistent = sound-facts (consistent-sound t (and_right (numbered t) (consistent t) h));
       },
-  λ s. both (numbered t) (consistent t) (all-numbered t s.numbers) (sound-consistent (facts-sound t s.consistent)),
+  λ s. yes_and (numbered t) (consistent t) (all-numbered t s.numbers) (sound-consistent (facts-sound t s.consistent)),
 )
 
 pub well_formed_is : WellFormedIs

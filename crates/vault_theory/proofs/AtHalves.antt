@@ -1,14 +1,13 @@
 -- Runs at secrets are runs at halves: order by order.
 -- Assumes nothing.
-use Rattle.std.proofs.Common.{◌≡◌, ℕ, zero, suc, Bool, true, false, cond, not, ◌&&◌, T, ltb, List, [], ◌∷◌, map, is_some, Some, None, Option, sym, refl, ap, ◌∙◌, inl, inr, arith}
+use Rattle.std.proofs.Common.{◌≡◌, ℕ, zero, suc, Bool, true, false, cond, not, ◌&&◌, T, ltb, List, [], ◌∷◌, map, is_some, Some, None, Option, refl, ap, ◌∙◌, arith}
 use mathlib.Core.List.{map-append}
+use Rattle.std.proofs.lemmas.Option.{same_Some}
 use Rattle.theory.specs.Known.{same}
 use Rattle.theory.specs.Secrets.{Secret, Box}
-use Rattle.theory.specs.Secrets as secrets
-use Rattle.theory.proofs.Tests.{decided, is_true, is_false, none-some, same_some}
 use Rattle.theory.proofs.Known.{same-is}
-use Rattle.vault_theory.specs.Order.{Order, draw, derive, mix, seal, unseal, forget, publish, derived, slot_count, map_order}
-use Rattle.vault_theory.specs.Vault.{Halves, Sealed, sealed_box, Vault, themselves, put, and_then, nth, filled, drew, emptied, has_sealed, has_given, step, run}
+use Rattle.vault_theory.specs.Order.{Order, draw, derive, mix, seal, unseal, forget, publish, slot_count, map_order}
+use Rattle.vault_theory.specs.Vault.{Halves, Sealed, sealed_box, Vault, themselves, put, and_then, nth, filled, drew, has_sealed, has_given, step, run}
 use Rattle.vault_theory.specs.AtHalves.{map_sealed, map_vault, Carries, RunsAtHalves}
 
 module _ {K : Type 0} (keys : Halves K) (reflexive : (k : K) → T (keys.same k k)) where
@@ -20,10 +19,10 @@ module _ {K : Type 0} (keys : Halves K) (reflexive : (k : K) → T (keys.same k 
   Carried o p = (u : Vault Secret) → o ≡ Some u → p ≡ Some (there u)
 
   carried_some : (v : Vault Secret) (x : Vault K) → x ≡ there v → Carried (Some v) (Some x)
-  carried_some v x e u d = ap Some (e ∙ ap there (same_some d))
+  carried_some v x e u d = ap Some (e ∙ ap there (same_Some _ _ d))
 
   carried_none : (p : Option (Vault K)) → Carried None p
-  carried_none p u d = absurd (none-some d)
+  carried_none p u d = cc
 
   carried-then :
       {A : Type 0} (o : Option A) (f : A → Option (Vault Secret)) (g : A → Option (Vault K)) → ((x : A) → Carried (f x) (g x)) →
@@ -86,7 +85,7 @@ module _ {K : Type 0} (keys : Halves K) (reflexive : (k : K) → T (keys.same k 
   carried-next :
       (o : Option (Vault Secret)) (p : Option (Vault K)) (f : Vault Secret → Option (Vault Secret)) (g : Vault K → Option (Vault K)) →
       Carried o p → ((v : Vault Secret) → Carried (f v) (g (there v))) → Carried (and_then o f) (and_then p g)
-  carried-next None p f g h k u d = absurd (none-some d)
+  carried-next None p f g h k u d = cc
   carried-next (Some v) p f g h k u d = ap (λ q. and_then q g) (h v refl) ∙ k v u d
 
   pub run-carried :

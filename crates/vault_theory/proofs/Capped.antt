@@ -4,7 +4,7 @@ use Rattle.std.proofs.Common.{◌≡◌, ℕ, suc, ◌+◌, ◌^◌, ◌<◌, �
 use mathlib.Core.List.Memᴰ
 use native.Mathlib.Nat.{min-eq_left}
 use Rattle.theory.specs.Limits.{max_depth}
-use Rattle.theory.specs.Tree.{Tree, leaf, node, Parent, blank_parent, keyed, is_blank, seated, members, height, resolution, grown}
+use Rattle.theory.specs.Tree.{Tree, leaf, node, Parent, blank_parent, keyed, is_blank, seated, members, height, resolution}
 use Rattle.theory.specs.Held.{is_unmerged}
 use Rattle.theory.specs.Group.{Change, renew, remove, add, Commit, readied}
 use Rattle.theory.proofs.Tests.{by_cond, decided, is_true, is_false, or_left}

@@ -13,7 +13,7 @@ use Rattle.vault_theory.specs.Order.{slot_of_key}
 use Rattle.vault_theory.specs.Vault.{Sealed, put}
 use Rattle.vault_theory.specs.Orders.{held_forgotten, dropped, abandoned}
 use Rattle.vault_theory.specs.Layout.{first}
-use Rattle.vault_theory.proofs.Steps.{Slots, put_same, put_other, put-put, put-there, vault, Runs, done, one-after, then-forget, runs-from, runs_to}
+use Rattle.vault_theory.proofs.Steps.{Slots, put-put, put-there, vault, Runs, done, one-after, then-forget, runs-from, runs_to}
 use Rattle.vault_theory.proofs.Seats.{Seat, here, on_left, on_right, seat-seated, seat-level}
 use Rattle.vault_theory.proofs.Slots.{parent_over, over, over-left, over-right, over-next, read_next}
 

@@ -1,18 +1,18 @@
 -- Who stays has few orders: of each parent one for the old node key and three for the new one.
 -- Assumes nothing.
-use Rattle.std.proofs.Common.{◌≡◌, ℕ, suc, ◌+◌, ◌*◌, ◌≤◌, Bool, cond, not, ◌||◌, T, eqb, List, [], ◌∷◌, ◌++◌, length, refl, ◌∙◌, inl, inr, arith, eqb→eq, T_not, length-append}
+use Rattle.std.proofs.Common.{◌≡◌, ℕ, suc, ◌+◌, ◌*◌, ◌≤◌, Bool, cond, not, ◌||◌, T, eqb, List, [], ◌∷◌, ◌++◌, length, refl, ◌∙◌, inl, inr, arith, eqb→eq, T_not}
 use mathlib.Core.Bool.{and-true}
 use lib.Dec.{not_T, eqb_refl}
-use Rattle.theory.specs.Tree.{Tree, leaf, node, Parent, blank_parent, seated, height, resolution, removed}
+use Rattle.theory.specs.Tree.{Tree, leaf, node, Parent, seated, height, resolution, removed}
 use Rattle.theory.specs.Group.{Change, renew, remove, add, Commit, readied}
-use Rattle.theory.proofs.Tests.{by_cond, decided, is_true, is_false, nor-left, nor-right, and_left, and_right}
+use Rattle.theory.proofs.Tests.{by_cond, decided, is_false, and_right}
 use Rattle.theory.proofs.Removal.{removed-absent, removed-node, seated-removed}
 use Rattle.theory.proofs.Level.{Level, level-height, removed-level}
 use Rattle.theory.proofs.Level as level
 use Rattle.theory.proofs.Wellformed.{Apart, Sound, at_node, consistent-sound}
 use Rattle.vault_theory.specs.Order.{Order}
 use Rattle.vault_theory.specs.Numbers.{levels, is_held}
-use Rattle.vault_theory.specs.Orders.{held_forgotten, dropped, dropped_for, climbed, opened, followed, turned, staying, taking, orders_of}
+use Rattle.vault_theory.specs.Orders.{held_forgotten, dropped, dropped_for, climbed, opened, followed, staying, orders_of}
 use Rattle.vault_theory.specs.Laws.{is_apart, stays, Few}
 use Rattle.vault_theory.proofs.Depth.{level-view, readied-deep}
 use Rattle.std.proofs.lemmas.Grind.{common_steps}

@@ -1,7 +1,8 @@
 -- A path that is followed: who isn't its committer opens one box, and has the node keys from there up.
 -- Assumes nothing.
-use Rattle.std.proofs.Common.{◌≡◌, ℕ, zero, suc, ◌+◌, ◌-◌, ◌<◌, ◌≤◌, not, T, ◌⊎◌, List, [], ◌∷◌, ◌++◌, length, Some, None, Option, sym, refl, ap, ◌∙◌, inl, inr, arith}
+use Rattle.std.proofs.Common.{◌≡◌, ℕ, zero, suc, ◌+◌, ◌<◌, ◌≤◌, not, T, ◌⊎◌, List, [], ◌∷◌, ◌++◌, length, Some, None, Option, sym, refl, ap, ◌∙◌, inl, inr, arith}
 use mathlib.Core.Path.{fun_ext}
+use Rattle.std.proofs.lemmas.Option.{same_Some}
 use Rattle.theory.specs.Limits.{max_depth}
 use Rattle.theory.specs.Secrets as secrets
 use Rattle.theory.specs.Secrets.{Secret, ups}
@@ -9,7 +10,7 @@ use Rattle.theory.specs.Tree.{Tree, node, Parent, seated, resolution}
 use Rattle.theory.specs.Path.{Target, Laid, sealed_to, parent_laid, level_after, laid}
 use Rattle.theory.specs.Held.{is_unmerged, node_key_held}
 use Rattle.theory.specs.Group.{path_boxes}
-use Rattle.theory.proofs.Tests.{is_true, is_false, same_some, none-some}
+use Rattle.theory.proofs.Tests.{is_true, is_false}
 use Rattle.theory.proofs.Level.{Level, level-height, laying-level}
 use Rattle.theory.proofs.Runs.{laying, seated-laying}
 use Rattle.theory.proofs.Wellformed.{Sound}
@@ -21,7 +22,7 @@ use Rattle.vault_theory.specs.Layout.{first}
 use Rattle.vault_theory.specs.Slots.{seen}
 use Rattle.vault_theory.proofs.Steps.{Slots, put_same, put_other, put-swap, vault, Runs, done, one-after, each, then-forget, then-derive, then-unseal, runs-from, runs_to}
 use Rattle.vault_theory.proofs.Seats.{Seat, seat-seated, seat-level, Meeting, from_right, from_left, both_left, both_right, meeting-level}
-use Rattle.vault_theory.proofs.Slots.{parent_over, over, over-left, over-right, high, over-read, over-next, read_next, over-held}
+use Rattle.vault_theory.proofs.Slots.{parent_over, over, over-left, over-right, over-read, over-next, read_next, over-held}
 use Rattle.vault_theory.proofs.Dropping.{forget-held}
 use Rattle.vault_theory.proofs.Numbering.{levels-laid, posted-laid, nth_left, nth_right, height_of_key-low, key-found}
 
@@ -114,8 +115,8 @@ boxes-length s (x ∷ xs) = ap suc (boxes-length s xs)
 
 nth-each : (x : Secret) (ks : List Secret) (n : ℕ) (k : Secret) → nth ks n ≡ Some k → nth (each x ks) n ≡ Some (record { key = k; holds = x })
 unfolding nth
-nth-each x [] n k e = absurd (none-some e)
-nth-each x (j ∷ ks) zero k e = ap (λ z. Some (record { key = z; holds = x })) (same_some e)
+nth-each x [] n k e = cc
+nth-each x (j ∷ ks) zero k e = ap (λ z. Some (record { key = z; holds = x })) (same_Some _ _ e)
 nth-each x (j ∷ ks) (suc n) k e = nth-each x ks n k e
 
 -- THE PATH of c, at secrets, with the path secret s below
@@ -198,6 +199,7 @@ module _ (c : ℕ) (own s : Secret) where
         (boxed_at boxes mine (resolution other) (number_of_key w other) found.key found.numbered boxed)
         (path-small (levels c mine)) (free-path (over w other b) (levels c mine) (free-over w b (seat-level x) n f)) done
 
+    -- the halves are written out both times: what is run in each is another order, and each rewrites by other facts
     pub following :
         {w d : ℕ} {t : Tree Secret} (b : Slots) → Meeting w c d t → d ≤ max_depth → Free b → Boxed boxes (after t).targets →
         Runs boxes (followed w c t) (vault (over w t b) ds ss gs) (vault (reached t (over w (after t).tree b)) ds ss gs)

@@ -15,7 +15,7 @@ use Rattle.theory.proofs.Addition.{adding, seated-adding}
 use Rattle.theory.proofs.Wellformed.{Fine, renewal, removal, addition, permitted, Sound, consistent-sound, readied-sound, climbing, climbing-sound, seated-grown}
 use Rattle.theory.proofs.Follows.{grown-room, stranger}
 use Rattle.vault_theory.specs.Order.{slot_of_key, epoch_slot}
-use Rattle.vault_theory.specs.Vault.{Sealed, sealed_box, themselves, put, nth, run}
+use Rattle.vault_theory.specs.Vault.{Sealed, themselves, put, nth, run}
 use Rattle.vault_theory.specs.Numbers.{posted}
 use Rattle.vault_theory.specs.Orders.{staying, committing, joining, leaving, welcoming}
 use Rattle.vault_theory.specs.Layout.{layout}

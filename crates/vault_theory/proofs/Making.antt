@@ -1,7 +1,6 @@
 -- A path that is laid: its committer seals it level by level, and has the node keys of all of it.
 -- Assumes nothing.
-use Rattle.std.proofs.Common.{◌≡◌, ℕ, suc, ◌≤◌, eqb, List, [], ◌∷◌, ◌++◌, Some, None, sym, ap, ◌∙◌, append_assoc, append-nil, arith}
-use lib.Dec.{eqb_refl}
+use Rattle.std.proofs.Common.{◌≡◌, ℕ, suc, ◌≤◌, List, [], ◌∷◌, ◌++◌, Some, None, sym, ap, append_assoc, append-nil, arith}
 use Rattle.theory.specs.Limits.{max_depth}
 use Rattle.theory.specs.Secrets.{Secret, ups}
 use Rattle.theory.specs.Tree.{Tree, seated, resolution}
@@ -16,10 +15,10 @@ use Rattle.vault_theory.specs.Numbers.{levels}
 use Rattle.vault_theory.specs.Orders.{sealed_up, made}
 use Rattle.vault_theory.specs.Layout.{first}
 use Rattle.vault_theory.specs.Slots.{seen, node_keys}
-use Rattle.vault_theory.proofs.Steps.{Slots, put_same, put-put, vault, Runs, done, one-after, then-publish, each, seal-all, runs-from, runs_to}
+use Rattle.vault_theory.proofs.Steps.{Slots, put_same, vault, Runs, done, one-after, then-publish, each, seal-all, runs-from, runs_to}
 use Rattle.vault_theory.proofs.Seats.{Seat, here, on_left, on_right, seat-seated, seat-level}
 use Rattle.vault_theory.proofs.Slots.{parent_over, over, over-left, over-right, over-next, read_next}
-use Rattle.vault_theory.proofs.Following.{Free, free-put, free-over, holding, rise, turn-over, node_key, after, after-level, after-seated, reached, after-left, after-right, boxes-append, boxes-each}
+use Rattle.vault_theory.proofs.Following.{Free, free-put, free-over, holding, rise, turn-over, node_key, after, after-level, after-seated, reached, after-left, after-right, boxes-each}
 use Rattle.std.proofs.lemmas.Grind.{common_steps}
 
 -- what is sealed below a parent and at it is what is sealed in all
@@ -47,6 +46,7 @@ module _ (c : ℕ) (own s : Secret) {boxes : List (Sealed Secret)} {ds : List Se
       (then-publish (slot_of_key (suc d)) (node_key c own s i) (put_same (slot_of_key (suc d)) (Some (node_key c own s i)) (holding i (ups i s) (over c t (put (slot_of_key (suc d)) None b)))) (rw (append_assoc gs (node_keys i s) (node_key c own s i ∷ [])) done)))
       (ap (holding (suc i) (ups (suc i) s)) (over-next c (Some (node_key c own s i)) None b a)))
 
+  -- the halves are written out both times: each rewrites by other facts
   pub making :
       {d : ℕ} {t : Tree Secret} (b : Slots) (ss : List (Sealed Secret)) (gs : List Secret) → Seat c d t → d ≤ max_depth → Free b →
       Runs boxes (made c t) (vault (holding 0 s (put (slot_of_key 0) (Some own) (over c t b))) ds ss gs)

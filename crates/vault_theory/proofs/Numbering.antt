@@ -1,12 +1,12 @@
 -- What a member knows of the committer's path is what the path has; and the key that is looked up by its number is the one that the member holds.
 -- Assumes nothing.
-use Rattle.std.proofs.Common.{◌≡◌, ℕ, zero, suc, ◌+◌, ◌<◌, ◌≤◌, Bool, true, false, cond, not, ◌||◌, T, eqb, List, [], ◌∷◌, ◌++◌, length, Some, refl, ap, ◌∙◌, inl, inr, append-nil, suc-add, zero-add, arith, eqb→eq, T_not}
-use lib.Dec.{not_T, eqb_refl}
+use Rattle.std.proofs.Common.{◌≡◌, ℕ, zero, suc, ◌+◌, ◌<◌, ◌≤◌, Bool, true, false, cond, not, ◌||◌, T, eqb, List, [], ◌∷◌, ◌++◌, length, Some, refl, ap, ◌∙◌, inl, inr, suc-add, zero-add, arith, eqb→eq, T_not}
+use lib.Dec.{eqb_refl}
 use Rattle.std.proofs.lemmas.Bool.{ne_eqb}
 use Rattle.theory.specs.Tree.{Tree, leaf, node, blank_leaf, occupied, Parent, blank_parent, keyed, seated, height, leaf_key, leaf_keys, resolution}
-use Rattle.theory.specs.Path.{Laid, level_after, laid}
+use Rattle.theory.specs.Path.{laid}
 use Rattle.theory.specs.Held.{is_unmerged, node_key_held, held_at}
-use Rattle.theory.proofs.Tests.{by_cond, decided, is_true, is_false, or_cases, or_left, or_right}
+use Rattle.theory.proofs.Tests.{decided, is_true, is_false, or_cases, or_left, or_right}
 use Rattle.theory.proofs.Level.{Level, level-height}
 use Rattle.theory.proofs.Level as level
 use Rattle.theory.proofs.Wellformed.{Sound, at_leaf, at_node}

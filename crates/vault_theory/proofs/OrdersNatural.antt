@@ -1,17 +1,16 @@
 -- Orders commute with a map of the keys.
 -- Assumes nothing.
-use Rattle.std.proofs.Common.{◌≡◌, ℕ, suc, Bool, true, false, cond, ◌||◌, eqb, List, [], ◌∷◌, ◌++◌, map, length, sym, refl, ap, ◌∙◌, ap₂, arith}
+use Rattle.std.proofs.Common.{◌≡◌, ℕ, suc, Bool, true, false, cond, eqb, List, [], ◌∷◌, ◌++◌, map, length, sym, refl, ap, ◌∙◌, ap₂, arith}
 use mathlib.Core.List.{map-append}
 use lib.ListN.{length-map}
 use Rattle.theory.specs.Tree.{Tree, leaf, node, Parent, blank_parent, keyed, seated, height, resolution}
-use Rattle.theory.specs.Path.{level_after}
 use Rattle.theory.specs.Held.{is_unmerged}
-use Rattle.theory.specs.Group.{Change, renew, remove, add, Commit, readied}
+use Rattle.theory.specs.Group.{Change, renew, remove, add, Commit}
 use Rattle.theory.specs.Natural.{map_parent, map_tree}
 use Rattle.theory.proofs.Natural.{push, seated-map, height-map, resolution-map, readied-map}
-use Rattle.vault_theory.specs.Order.{Order, draw, mix, seal, unseal, forget, publish, map_order, talk_slot, seed_slot, slot_of_key, slot_of_path, epoch_slot, init_slot}
+use Rattle.vault_theory.specs.Order.{Order, seal, forget, publish, map_order, talk_slot, seed_slot, slot_of_key, slot_of_path}
 use Rattle.vault_theory.specs.Numbers.{levels, posted, is_held, number_of_key, height_of_key}
-use Rattle.vault_theory.specs.Orders.{held_forgotten, dropped, dropped_for, climbed, sealed_up, risen, opened, followed, made, renewed, turned, staying, welcoming, committing, joining, abandoned, leaving, taking, orders_of}
+use Rattle.vault_theory.specs.Orders.{held_forgotten, dropped, dropped_for, climbed, sealed_up, risen, opened, followed, made, staying, committing, joining, abandoned, leaving, taking, orders_of}
 use Rattle.vault_theory.specs.OrdersNatural.{OrdersNatural, OrdersNaturality}
 
 module _ {A B : Type 0} (f : A → B) where

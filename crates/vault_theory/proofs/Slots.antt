@@ -16,7 +16,7 @@ use Rattle.vault_theory.specs.Order.{talk_slot, seed_slot, slot_of_key}
 use Rattle.vault_theory.specs.Vault.{put}
 use Rattle.vault_theory.specs.Layout.{first, layout}
 use Rattle.vault_theory.specs.Slots.{bare}
-use Rattle.vault_theory.proofs.Steps.{Slots, put_same, put-put, put-swap, put-there}
+use Rattle.vault_theory.proofs.Steps.{Slots, put_same, put-swap, put-there}
 use Rattle.vault_theory.proofs.Stocked.{held-seated, held_low}
 use Rattle.vault_theory.proofs.Seats.{Seat, here, on_left, on_right, seat-seated, seat-level}
 

@@ -6,8 +6,8 @@ use Rattle.theory.specs.Group.{Change, renew, remove, add, Commit, readied}
 use Rattle.theory.proofs.Tests.{by_cond}
 use Rattle.theory.proofs.Level.{Level, at_leaf, at_node, level-height}
 use Rattle.theory.proofs.Follows.{All, all_append, all_one, all_cons, all_nil}
-use Rattle.vault_theory.specs.Order.{Way, up, lock, seed, talk, Order, draw, derive, mix, seal, unseal, forget, publish, talk_slot, seed_slot, slot_of_key, slot_of_path, epoch_slot, init_slot}
-use Rattle.vault_theory.specs.Numbers.{levels, posted, is_held, height_of_key}
+use Rattle.vault_theory.specs.Order.{Way, up, lock, Order, draw, derive, mix, seal, unseal, forget, publish, talk_slot, seed_slot, slot_of_key, slot_of_path, epoch_slot, init_slot}
+use Rattle.vault_theory.specs.Numbers.{levels, posted, is_held}
 use Rattle.vault_theory.specs.Orders.{held_forgotten, dropped, dropped_for, risen, climbed, sealed_up, opened, followed, made, renewed, turned, staying, welcoming, committing, joining, abandoned, leaving, taking, orders_of, founding}
 use Rattle.vault_theory.specs.Laws.{slots_of, Within, NamesWithin, Spare}
 use Rattle.vault_theory.proofs.Numbering.{height_of_key-low}

@@ -2,10 +2,11 @@
 -- Assumes nothing.
 use Rattle.std.proofs.Common.{◌≡◌, ℕ, ◌<◌, ltb, List, [], ◌∷◌, ◌++◌, map, Some, None, Option, refl, append_assoc, append-nil, arith, lt→ltb}
 use mathlib.Core.Path.{fun_ext}
+use Rattle.std.proofs.lemmas.Option.{same_Some}
 use Rattle.theory.specs.Secrets as secrets
 use Rattle.theory.specs.Secrets.{Secret}
 use Rattle.theory.specs.Known.{same}
-use Rattle.theory.proofs.Tests.{is_true, same_some, none-some}
+use Rattle.theory.proofs.Tests.{is_true}
 use Rattle.theory.proofs.Known.{same_refl}
 use Rattle.vault_theory.specs.Order.{Way, derived, Order, draw, derive, mix, seal, unseal, forget, publish, slot_count}
 use Rattle.vault_theory.specs.Vault.{Sealed, Vault, themselves, put, and_then, nth, filled, step, run}
@@ -54,13 +55,13 @@ go_on :
     (boxes : List (Sealed Secret)) (xs ys : List (Order Secret)) (v u z : Vault Secret) →
     run themselves boxes xs v ≡ Some u → run themselves boxes ys u ≡ Some z → run themselves boxes (xs ++ ys) v ≡ Some z
 unfolding run
-go_on boxes [] ys v u z e r = rw (same_some e) r
+go_on boxes [] ys v u z e r = rw (same_Some _ _ e) r
 go_on boxes (o ∷ xs) ys v u z e r = past (step themselves boxes o v) (λ v' h. go_on boxes xs ys v' u z h r) e
   where
     past :
         (m : Option (Vault Secret)) → ((v' : Vault Secret) → run themselves boxes xs v' ≡ Some u → run themselves boxes (xs ++ ys) v' ≡ Some z) →
         and_then m (run themselves boxes xs) ≡ Some u → and_then m (run themselves boxes (xs ++ ys)) ≡ Some z
-    past None f h = absurd (none-some h)
+    past None f h = cc
     past (Some v') f h = f v' h
 
 pub one-after :

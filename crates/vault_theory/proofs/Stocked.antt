@@ -1,15 +1,15 @@
 -- A vault that is laid out for a group holds just what its member holds.
 -- Assumes nothing.
-use Rattle.std.proofs.Common.{◌≡◌, ℕ, zero, suc, ◌≤◌, not, ◌||◌, T, eqb, ◌↔◌, List, [], ◌∷◌, Some, sym, ap, inl, inr, arith, eqb→eq, T_not}
+use Rattle.std.proofs.Common.{◌≡◌, ℕ, zero, suc, ◌≤◌, not, T, ◌↔◌, List, [], ◌∷◌, Some, sym, ap, inl, inr, arith, T_not}
 use mathlib.Core.List.Memᴰ
 use mathlib.Core.List.{Memᴰ}
-use Rattle.std.proofs.lemmas.Bool.{cases_lt}
+use Rattle.std.proofs.lemmas.Option.{same_Some}
 use Rattle.theory.specs.Secrets.{Secret, seed, talk}
-use Rattle.theory.specs.Tree.{Tree, leaf, node, Leaf, blank_leaf, occupied, Parent, blank_parent, keyed, is_at, key_at, seated, height, is_level}
+use Rattle.theory.specs.Tree.{Tree, leaf, node, Leaf, blank_leaf, occupied, Parent, blank_parent, keyed, key_at, seated, is_level}
 use Rattle.theory.specs.Held.{is_unmerged, node_key_held, held, held_at}
 use Rattle.theory.specs.Group.{Group, stock}
 use Rattle.theory.specs.Laws.{held_down}
-use Rattle.theory.proofs.Tests.{by_cond, is_true, is_false, or_left, or_right, same_some, none-some}
+use Rattle.theory.proofs.Tests.{by_cond, is_true, is_false}
 use Rattle.theory.proofs.Level.{Level, at_leaf, at_node, level-height}
 use Rattle.theory.proofs.Heights.{held_by_height_holds}
 use Rattle.vault_theory.proofs.Depth.{level-view}
@@ -17,8 +17,8 @@ use Rattle.vault_theory.specs.Layout.{first, layout, LayoutHolds}
 
 -- FIRST of a list.
 pub first-in : {A : Type 0} {x : A} (xs : List A) → first xs ≡ Some x → Memᴰ x xs
-first-in [] e = absurd (none-some e)
-first-in (y ∷ xs) e = Memᴰ.head (sym (same_some e))
+first-in [] e = cc
+first-in (y ∷ xs) e = Memᴰ.head (sym (same_Some _ _ e))
 
 -- where a list has one thing at most, that is its first
 abbrev Lone : {A : Type 0} → A → List A → Type 0
@@ -79,9 +79,9 @@ Stocked w g s = Memᴰ s (talk g.secret ∷ seed g.secret ∷ held w g.tree)
 
 module _ (g : Group) (d w : ℕ) (h : T (is_level d g.tree)) (s : Secret) where
   slot-stocked : T (seated w g.tree) → (i : ℕ) → layout w g i ≡ Some s → Stocked w g s
-  slot-stocked p zero e = Memᴰ.head (sym (same_some (rw (is_true (seated w g.tree) p) at e)))
+  slot-stocked p zero e = Memᴰ.head (sym (same_Some _ _ (rw (is_true (seated w g.tree) p) at e)))
   slot-stocked p (suc zero) e =
-      Memᴰ.tail (Memᴰ.head (sym (same_some (rw (is_true (seated w g.tree) p) at e))))
+      Memᴰ.tail (Memᴰ.head (sym (same_Some _ _ (rw (is_true (seated w g.tree) p) at e))))
   slot-stocked p (suc (suc i)) e =
       let t = g.tree in
       let m = first-in (held_at w i t) e in
@@ -104,8 +104,8 @@ module _ (g : Group) (d w : ℕ) (h : T (is_level d g.tree)) (s : Secret) where
 
   -- one who isn't seated has nothing in any slot
   absent-slot : T (not (seated w g.tree)) → (i : ℕ) → layout w g i ≡ Some s → ⊥
-  absent-slot n zero e = none-some (rw (is_false (seated w g.tree) n) at e)
-  absent-slot n (suc zero) e = none-some (rw (is_false (seated w g.tree) n) at e)
+  absent-slot n zero e = cc (rw (is_false (seated w g.tree) n) at e)
+  absent-slot n (suc zero) e = cc (rw (is_false (seated w g.tree) n) at e)
   absent-slot n (suc (suc i)) e =
       T_not (seated w g.tree) n (held-seated s w i g.tree (first-in (held_at w i g.tree) e))
 

@@ -1,6 +1,6 @@
 -- The epoch's secret, and the talk secret and the seed that come of it.
 -- Assumes nothing.
-use Rattle.std.proofs.Common.{◌≡◌, ℕ, ◌<◌, ◌≤◌, List, Some, None, refl, ap, ◌∙◌, inl, inr, arith}
+use Rattle.std.proofs.Common.{◌≡◌, ℕ, ◌<◌, ◌≤◌, List, Some, None, refl, inl, inr, arith}
 use mathlib.Core.Path.{fun_ext}
 use Rattle.theory.specs.Limits.{max_depth}
 use Rattle.theory.specs.Secrets as secrets
@@ -12,8 +12,8 @@ use Rattle.vault_theory.specs.Vault.{Sealed, put}
 use Rattle.vault_theory.specs.Orders.{renewed, turned}
 use Rattle.vault_theory.specs.Slots.{bare}
 use Rattle.vault_theory.proofs.Steps.{Slots, vault, Runs, done, one-after, then-forget, then-derive, then-mix, runs-from, runs_to}
-use Rattle.vault_theory.proofs.Slots.{over, epoch_over, low, high, over-put, over-read}
-use Rattle.vault_theory.proofs.Following.{Free, turns, free-over, free-path, holding}
+use Rattle.vault_theory.proofs.Slots.{over, epoch_over, over-put, over-read}
+use Rattle.vault_theory.proofs.Following.{Free, turns, free-path, holding}
 
 -- nothing but keys
 pub record Plain (b : Slots) : Type 0 where
