@@ -15,10 +15,6 @@ Seen = Leaf PublicKey × Parent PublicKey
 abbrev pub blank_seen : Seen
 blank_seen = (blank_leaf, blank_parent)
 
--- a node is pushed that shows what another one shows
-pub seen-pushed : (xs xs' : List Node) (x n : Node) → xs' ≡ xs ++ x ∷ [] → seen x ≡ seen n → map seen xs' ≡ map seen xs ++ seen n ∷ []
-seen-pushed xs xs' x n e s = ap (map seen) e ∙ map-append seen xs (x ∷ []) ∙ ap (λ y. map seen xs ++ y ∷ []) s
-
 -- one node more
 pub seen_more : (xs xs' ns : List Node) (i : ℕ) (d : Node) → map seen xs' ≡ map seen xs ++ seen (get_or ns i d) ∷ [] → map seen xs ≡ map seen (take i ns) → i < length ns →
     map seen xs' ≡ map seen (take (i + 1) ns)

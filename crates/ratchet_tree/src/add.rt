@@ -35,6 +35,7 @@ fn note_unmerged(node: &mut Node, member: MemberId) -> Result<(), AllocError>
     Ok(())
 }
 
+// Nodes and height go apart: a struct of both, that keeps their fact, gets no generated proof where its slice is lent on.
 fn add_in(
     nodes: &mut [Node],
     height: usize,
@@ -77,8 +78,7 @@ impl RatchetTree {
     ) -> Result<RatchetTree, AllocError>
         ensures { IfOk result (λ t. the_tree t ≡ leaf (occupied member.0 key)) }
     {
-        let mut nodes = Vec::new(alloc);
-        nodes.push(Node::Leaf(Leaf::Occupied { member, key }))?;
+        let nodes = vec![in alloc; Node::Leaf(Leaf::Occupied { member, key })]?;
         Ok(RatchetTree { nodes, depth: 0 })
     }
 

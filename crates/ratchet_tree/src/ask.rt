@@ -2,7 +2,7 @@
 ghost use Rattle.std.specs.Prelude.{◌≡◌};
 ghost use Rattle.std.specs.Option.{option_map};
 ghost use Rattle.theory.specs.Tree.{full, members, seated};
-ghost use Rattle.theory.specs.Tree.{position as position-of};
+ghost use Rattle.theory.specs.Tree.{position as position_of};
 ghost use Rattle.tree_math.specs.declared.index.LeafIndex.{LeafIndex as Index};
 ghost use Rattle.ratchet_tree.specs.Parts.{part_tree};
 
@@ -39,7 +39,7 @@ impl<'a> Part<'a> {
 
     // Which leaf of the part, from the left, the member sits at.
     pub fn position(self, member: MemberId) -> Option<LeafIndex>
-        ensures { option_map (λ (i : Index). i.0) result ≡ position-of member.0 (part_tree self.entry) }
+        ensures { option_map (λ (i : Index). i.0) result ≡ position_of member.0 (part_tree self.entry) }
     {
         match self.split() {
             Split::Leaf(node) => node.seats(member).then_some(LeafIndex(0)),

@@ -3,7 +3,7 @@ ghost use Rattle.std.specs.Prelude.{◌≡◌, IfOk, MatchOption};
 ghost use Rattle.std.specs.Option.{option_to_list};
 ghost use Rattle.theory.specs.Held.{held_at, is_unmerged, node_key_held};
 ghost use Rattle.theory.specs.Tree.{blank_parent, leaf_key, leaf_keys};
-ghost use Rattle.theory.specs.Tree.{resolution as resolution-of};
+ghost use Rattle.theory.specs.Tree.{resolution as resolution_of};
 ghost use Rattle.ratchet_tree.specs.Keys.{Appends, IsKeyed};
 ghost use Rattle.ratchet_tree.specs.Nodes.{numbers, parent_of};
 ghost use Rattle.ratchet_tree.specs.Parts.{part_tree};
@@ -16,7 +16,7 @@ use crate::seats::{Seat, seats_of};
 use crate::split::Split;
 use std::alloc::{AllocError, Global};
 
-// For so many members a table of who sits where doesn't pay.
+// A table of who sits where has an entry for each number up to the largest: for so many members it takes longer to make.
 const FEW: usize = 16;
 
 // A node key and its unmerged members, lent from the parent.
@@ -71,20 +71,6 @@ impl<'a> Part<'a> {
         }
     }
 
-    // Appends the leaf keys of these members, looked up one by one.
-    fn push_few_leaf_keys(
-        self,
-        members: &[MemberId],
-        out: &mut Vec<PublicKey>,
-    ) -> Result<(), AllocError>
-        ensures { Appends out.old.items (leaf_keys (numbers members.now) (part_tree self.entry)) out.new.items result }
-    {
-        for member in members {
-            self.push_leaf_key(*member, out)?;
-        }
-        Ok(())
-    }
-
     // Appends the member's leaf key, looked up where the table says; where that doesn't say it, all leaves are looked at.
     fn push_key_at(
         self,
@@ -102,23 +88,7 @@ impl<'a> Part<'a> {
         }
     }
 
-    // Appends the leaf keys of these members, looked up by a table.
-    fn push_many_leaf_keys(
-        self,
-        alloc: Global,
-        members: &[MemberId],
-        out: &mut Vec<PublicKey>,
-    ) -> Result<(), AllocError>
-        ensures { Appends out.old.items (leaf_keys (numbers members.now) (part_tree self.entry)) out.new.items result }
-    {
-        let seats = seats_of(alloc, self, members)?;
-        for member in members {
-            self.push_key_at(&seats, *member, out)?;
-        }
-        Ok(())
-    }
-
-    // Appends the leaf keys of these members.
+    // Appends the leaf keys of these members, few of them looked up one by one.
     fn push_leaf_keys(
         self,
         alloc: Global,
@@ -128,15 +98,21 @@ impl<'a> Part<'a> {
         ensures { Appends out.old.items (leaf_keys (numbers members.now) (part_tree self.entry)) out.new.items result }
     {
         if members.len() <= FEW {
-            self.push_few_leaf_keys(members, out)
-        } else {
-            self.push_many_leaf_keys(alloc, members, out)
+            for member in members {
+                self.push_leaf_key(*member, out)?;
+            }
+            return Ok(());
         }
+        let seats = seats_of(alloc, self, members)?;
+        for member in members {
+            self.push_key_at(&seats, *member, out)?;
+        }
+        Ok(())
     }
 
     // Appends the fewest keys that reach everybody seated here.
     fn push_resolution(self, alloc: Global, out: &mut Vec<PublicKey>) -> Result<(), AllocError>
-        ensures { Appends out.old.items (resolution-of (part_tree self.entry)) out.new.items result }
+        ensures { Appends out.old.items (resolution_of (part_tree self.entry)) out.new.items result }
     {
         match self.split() {
             Split::Leaf(node) => push_some(out, node.leaf_key()),
@@ -155,7 +131,7 @@ impl<'a> Part<'a> {
 
     // The fewest keys that reach everybody seated here.
     pub fn resolution(self, alloc: Global) -> Result<Vec<PublicKey>, AllocError>
-        ensures { IfOk result (λ v. v.items ≡ resolution-of (part_tree self.entry)) }
+        ensures { IfOk result (λ v. v.items ≡ resolution_of (part_tree self.entry)) }
     {
         let mut keys = Vec::new(alloc);
         self.push_resolution(alloc, &mut keys)?;

@@ -20,6 +20,7 @@ fn vacate(node: &mut Node, member: MemberId)
     }
 }
 
+// Nodes and height go apart: a struct of both, that keeps their fact, gets no generated proof where its slice is lent on.
 fn remove_in(nodes: &mut [Node], height: usize, member: MemberId)
     requires { (length nodes.old ≡ span height) × (height ≤ max_depth) }
     ensures { tree_of height nodes.new ≡ removed member.0 (tree_of height nodes.old) }
