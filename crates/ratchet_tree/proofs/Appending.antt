@@ -1,8 +1,8 @@
 -- Appending keys one after the other, and members in a list.
 -- Assumes nothing.
-use Rattle.std.proofs.Common.{◌≡◌, ℕ, zero, suc, ◌+◌, ◌<◌, ◌≤◌, true, false, eqb, List, [], ◌∷◌, ◌++◌, length, get_or, take, Result, sym, refl, ap, ◌∙◌, append_assoc, arith}
+use Rattle.std.proofs.Common.{◌≡◌, ℕ, ◌+◌, ◌<◌, ◌≤◌, Bool, ◌||◌, eqb, List, [], ◌∷◌, ◌++◌, length, get_or, take, Result, sym, refl, ap, ◌∙◌, append_assoc}
 use Rattle.std.proofs.lemmas.List.{take_all, take_more, append-nil, map-append}
-use Rattle.std.proofs.lemmas.Bool.{eq-eqb, ne_eqb, or_left, or_right, or_from}
+use Rattle.std.specs.List.{list_any}
 use Rattle.theory.specs.Held.{is_unmerged}
 use Rattle.theory.specs.Tree.{Tree, node, Parent, blank_parent, keyed, leaf_key, leaf_keys, resolution}
 use Rattle.ratchet_tree.specs.Keys.{Appends}
@@ -59,14 +59,8 @@ pub resolution-blank : {K : Type 0} (t : Tree K) (p : Parent K) (l r : Tree K) �
 unfolding resolution
 resolution-blank t p l r e q = ap resolution (sym (e ∙ ap (λ (x : Parent _). node x l r) q))
 
-pub among-at : (m : ℕ) (ms : List MemberId) (i : ℕ) (d : MemberId) → i < length ms → (get_or ms i d).0 ≡ m → is_unmerged m (numbers ms) ≡ true
+-- a member among others, asked of each
+pub among-any : (m : ℕ) (ms : List MemberId) → list_any (λ (w : MemberId). eqb w.0 m) ms ≡ is_unmerged m (numbers ms)
 unfolding is_unmerged
-among-at m [] i d h e = absurd (omega arith)
-among-at m (w ∷ ws) zero d h e = or_left (eqb w.0 m) (is_unmerged m (numbers ws)) (eq-eqb w.0 m e)
-among-at m (w ∷ ws) (suc i) d h e = or_right (eqb w.0 m) (is_unmerged m (numbers ws)) (among-at m ws i d (omega arith) e)
-
-pub among_none : (m : ℕ) (ms : List MemberId) (d : MemberId) → ((k : ℕ) → k < length ms → (get_or ms k d).0 ≡ m → ⊥) → is_unmerged m (numbers ms) ≡ false
-unfolding is_unmerged
-among_none m [] d h = refl
-among_none m (w ∷ ws) d h =
-    or_from (eqb w.0 m) (is_unmerged m (numbers ws)) (ne_eqb w.0 m (h zero (omega arith))) (among_none m ws d (λ k l. h (suc k) (omega arith)))
+among-any m [] = refl
+among-any m (w ∷ ws) = ap (λ (b : Bool). eqb w.0 m || b) (among-any m ws)

@@ -1,8 +1,8 @@
 -- How many members and leaves a part can have, and where a member can sit in it.
 -- Assumes nothing.
-use Rattle.std.proofs.Common.{◌≡◌, ℕ, zero, suc, ◌+◌, ◌*◌, ◌<◌, ◌≤◌, Bool, true, false, cond, List, length, take, drop, Some, None, Option, sym, refl, ap, ◌∙◌, arith}
+use Rattle.std.proofs.Common.{◌≡◌, ℕ, zero, suc, ◌+◌, ◌*◌, ◌<◌, ◌≤◌, Bool, true, false, cond, List, length, take, drop, Some, None, Option, sym, refl, ap, ap₂, ◌∙◌, arith}
 use Rattle.theory.specs.Limits.{max_depth}
-use Rattle.theory.specs.Tree.{Tree, leaf, node, is_at, is_blank, members, leaves, position, height, or_else}
+use Rattle.theory.specs.Tree.{Tree, Parent, leaf, node, is_at, is_blank, members, leaves, position, height, or_else}
 use Rattle.tree_math.specs.Span.{span}
 use Rattle.tree_math.proofs.Span.{span-bound}
 use Rattle.ratchet_tree.specs.declared.node.Node.{Node}
@@ -54,3 +54,9 @@ pub position-below : (m : ℕ) (t : Tree PublicKey) (i : ℕ) → position m t �
 unfolding position leaves
 position-below m (leaf x) i e = some-leaf (is_at m x) i e
 position-below m (node p l r) i e = either_side (leaves l) (leaves r) (position m l) (position m r) i (position-below m l) (position-below m r) e
+
+-- where a member sits in a part, by where it sits in its halves
+pub position-halves : (m : ℕ) {t : Tree PublicKey} (p : Parent PublicKey) {l r : Tree PublicKey} {a b : Option ℕ} → a ≡ position m l → b ≡ position m r → t ≡ node p l r →
+    or_else a (leaves l) b ≡ position m t
+unfolding position
+position-halves m p {l} a b e = ap₂ (λ (x y : Option ℕ). or_else x (leaves l) y) a b ∙ ap (position m) (sym e)

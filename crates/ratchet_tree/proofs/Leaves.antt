@@ -1,7 +1,7 @@
 -- The leaves of a line of nodes, from the left: what is asked of a tree, asked of them one by one.
 -- Assumes nothing.
-use Rattle.std.proofs.Common.{◌≡◌, ℕ, zero, suc, ◌+◌, ◌-◌, ◌*◌, ◌/◌, ◌<◌, ◌≤◌, Bool, true, false, not, ◌&&◌, ◌||◌, List, [], ◌∷◌, ◌++◌, length, get_or, take, drop, sym, refl, ap, ◌∙◌, ap₂, inl, inr, arith, below_more}
-use Rattle.std.proofs.lemmas.List.{get_or-take, get_or-drop, length-append, get_or_append_left, get_or-append_right, get_or_default}
+use Rattle.std.proofs.Common.{◌≡◌, ℕ, zero, suc, ◌+◌, ◌-◌, ◌*◌, ◌<◌, Bool, true, false, not, ◌&&◌, ◌||◌, List, [], ◌∷◌, ◌++◌, length, get_or, take, drop, sym, refl, ap, ◌∙◌, ap₂, inl, inr, arith}
+use Rattle.std.proofs.lemmas.List.{get_or-take, get_or-drop, length-append, get_or_append_left, get_or-append_right}
 use Rattle.std.proofs.lemmas.Bool.{or_left, or_right, or_from, cases_lt}
 use Rattle.theory.specs.Tree.{Tree, Leaf, leaf, node, blank_leaf, is_at, is_blank, seated, full}
 use Rattle.tree_math.specs.Span.{span}
@@ -55,13 +55,13 @@ some-append f (x ∷ xs) ys = ap (λ (b : Bool). f x || b) (some-append f xs ys)
     or_assoc true b c = refl
     or_assoc false b c = refl
 
-some_at : {K : Type 0} (f : Leaf K → Bool) (xs : List (Leaf K)) (i : ℕ) → i < length xs → f (get_or xs i blank_leaf) ≡ true → some f xs ≡ true
+pub some_at : {K : Type 0} (f : Leaf K → Bool) (xs : List (Leaf K)) (i : ℕ) → i < length xs → f (get_or xs i blank_leaf) ≡ true → some f xs ≡ true
 unfolding some
 some_at f [] i b e = absurd (omega arith)
 some_at f (x ∷ xs) zero b e = or_left (f x) (some f xs) e
 some_at f (x ∷ xs) (suc i) b e = or_right (f x) (some f xs) (some_at f xs i (omega arith) e)
 
-some-none : {K : Type 0} (f : Leaf K → Bool) (xs : List (Leaf K)) → ((i : ℕ) → i < length xs → f (get_or xs i blank_leaf) ≡ false) → some f xs ≡ false
+pub some-none : {K : Type 0} (f : Leaf K → Bool) (xs : List (Leaf K)) → ((i : ℕ) → i < length xs → f (get_or xs i blank_leaf) ≡ false) → some f xs ≡ false
 unfolding some
 some-none f [] h = refl
 some-none f (x ∷ xs) h = or_from (f x) (some f xs) (h zero (omega arith)) (some-none f xs (λ i b. h (suc i) (omega arith)))
@@ -89,32 +89,3 @@ full-line (node p l r) =
     neither : (a b : Bool) → (not a && not b) ≡ not (a || b)
     neither true b = refl
     neither false b = refl
-
-pub not-not : (b : Bool) → b ≡ not (not b)
-not-not true = refl
-not-not false = refl
-
--- a line of nodes, asked leaf by leaf
-module _ (h : ℕ) (ns : List Node) (len : length ns ≡ span h) where
-  -- the node of a leaf stands in the line
-  pub leaf-below : (i : ℕ) → i < length ns / 2 + 1 → 2 * i < length ns
-  leaf-below i b = omega (arith, line-length h ns)
-
-  -- the leaf at the node that was read
-  pub leaf-read : (i : ℕ) (x : Node) → i < length ns / 2 + 1 → x ≡ get_or ns (2 * i) x → leaf_of x ≡ leaf_of (get_or ns (2 * i) no_node)
-  leaf-read i x b is = ap leaf_of (is ∙ get_or_default ns (2 * i) x no_node (leaf-below i b))
-
-  module _ (f : Leaf PublicKey → Bool) where
-    pub one_passes : (i : ℕ) (x : Node) → i < length ns / 2 + 1 → x ≡ get_or ns (2 * i) x → f (leaf_of x) ≡ true → some f (line (tree_of h ns)) ≡ true
-    one_passes i x b is e =
-        some_at f (line (tree_of h ns)) i (omega (arith, line-length h ns))
-        (ap f (line_at h ns i (omega (arith, leaf-below i b)) ∙ sym (leaf-read i x b is)) ∙ e)
-
-    pub none_more : (i : ℕ) (x : Node) → i < length ns / 2 + 1 → x ≡ get_or ns (2 * i) x → f (leaf_of x) ≡ false →
-        ((k : ℕ) → k < i → f (leaf_of (get_or ns (2 * k) no_node)) ≡ false) → (k : ℕ) → k < i + 1 → f (leaf_of (get_or ns (2 * k) no_node)) ≡ false
-    none_more i x b is e before = below_more _ _ before (ap f (sym (leaf-read i x b is)) ∙ e)
-
-    pub none_passes : (i : ℕ) → length ns / 2 + 1 ≤ i → ((k : ℕ) → k < i → f (leaf_of (get_or ns (2 * k) no_node)) ≡ false) → some f (line (tree_of h ns)) ≡ false
-    none_passes i b before =
-        some-none f (line (tree_of h ns))
-        (λ k l. ap f (line_at h ns k (omega (arith, line-length h ns))) ∙ before k (omega (arith, line-length h ns)))

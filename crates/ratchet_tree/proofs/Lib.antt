@@ -1,6 +1,7 @@
 pub mod Tests
 pub mod Trees
 pub mod Leaves
+pub mod Strides
 pub mod Seating
 pub mod Counts
 pub mod Appending

@@ -1,13 +1,16 @@
 -- A table of who sits where, filled leaf by leaf, and a member's leaf key looked up by it.
 -- Assumes nothing.
-use Rattle.std.proofs.Common.{◌≡◌, ℕ, zero, suc, ◌+◌, ◌-◌, ◌*◌, ◌<◌, ◌≤◌, false, cond, eqb, List, [], ◌∷◌, ◌++◌, length, get_or, take, sym, refl, ap, ◌∙◌, subst, ap₂, append_assoc, arith}
-use Rattle.std.proofs.lemmas.List.{append-nil, take_more, take_all, get_or_default}
-use Rattle.std.proofs.lemmas.Bool.{cond_both, cond-false, eqb-true}
+use Rattle.std.proofs.Common.{◌≡◌, ℕ, ◌+◌, ◌*◌, ◌/◌, ◌%◌, ◌<◌, false, List, [], ◌∷◌, ◌++◌, length, get_or, take, replicate, sym, refl, ap, ◌∙◌, subst, ap₂, append_assoc, arith}
+use Rattle.std.proofs.lemmas.List.{append-nil, take_more, take_all, get_or_default, get_or-replicate, length-replicate}
+use Rattle.std.proofs.lemmas.Bool.{cond_both, cond-false}
 use Rattle.theory.specs.Tree.{Tree, Leaf, leaf, node, blank_leaf, is_at, key_at, leaf_key}
 use Rattle.tree_math.specs.Span.{span}
+use Rattle.tree_math.specs.declared.index.LeafIndex.{LeafIndex}
 use Rattle.ratchet_tree.specs.declared.node.Node.{Node}
 use Rattle.ratchet_tree.specs.Nodes.{leaf_of, tree_of, no_node}
-use Rattle.ratchet_tree.specs.Seats.{line, own_key, Seat, Seats, noted, Noted}
+use Rattle.ratchet_tree.specs.declared.seats.Seat as seat
+use Rattle.ratchet_tree.specs.declared.seats.Seat.TheVariants.{Nowhere, At, Several}
+use Rattle.ratchet_tree.specs.Seats.{line, own_key, Seat, Seats, one_more, noted, Noted}
 use Rattle.ratchet_tree.proofs.Leaves.{line-length, line_at}
 
 -- the leaf keys of m at some leaves
@@ -26,68 +29,80 @@ keys-line m (leaf x) = sym (append-nil (own_key m x))
 keys-line m (node p l r) = ap₂ (λ a b. a ++ b) (keys-line m l) (keys-line m r) ∙ sym (keys-append m (line l) (line r))
 
 -- what m's entry tells of the first i leaves
-abbrev pub Told : {K : Type 0} → List (Leaf K) → ℕ → ℕ → ℕ → Type 0
-Told xs i m zero = keys_of m (take i xs) ≡ []
-Told xs i m (suc j) = j < length xs → keys_of m (take i xs) ≡ own_key m (get_or xs j blank_leaf)
+abbrev pub Told : {K : Type 0} → List (Leaf K) → ℕ → ℕ → seat.Seat → Type 0
+Told xs i m Nowhere = keys_of m (take i xs) ≡ []
+Told xs i m (At j) = (j.0 < i) × (keys_of m (take i xs) ≡ own_key m (get_or xs j.0 blank_leaf))
+Told xs i m Several = Unit {0}
 
 -- and each entry of a table
-abbrev pub ToldAll : {K : Type 0} → List (Leaf K) → ℕ → List ℕ → Type 0
-ToldAll xs i es = (m : ℕ) → m < length es → Told xs i m (get_or es m 0)
+abbrev pub ToldAll : {K : Type 0} → List (Leaf K) → ℕ → List seat.Seat → Type 0
+ToldAll xs i es = (m : ℕ) → m < length es → Told xs i m (get_or es m Nowhere)
 
 module _ {K : Type 0} (xs : List (Leaf K)) (i m : ℕ) (b : i < length xs) where
-  one_more : keys_of m (take (i + 1) xs) ≡ keys_of m (take i xs) ++ own_key m (get_or xs i blank_leaf)
+  keys-more : keys_of m (take (i + 1) xs) ≡ keys_of m (take i xs) ++ own_key m (get_or xs i blank_leaf)
   unfolding keys_of
-  one_more =
+  keys-more =
       ap (keys_of m) (take_more xs i blank_leaf b) ∙ keys-append m (take i xs) (get_or xs i blank_leaf ∷ [])
       ∙ ap (λ l. keys_of m (take i xs) ++ l) (append-nil (own_key m (get_or xs i blank_leaf)))
 
   -- m doesn't sit at the leaf
   elsewhere : is_at m (get_or xs i blank_leaf) ≡ false → keys_of m (take (i + 1) xs) ≡ keys_of m (take i xs)
   elsewhere n =
-      one_more ∙ ap (λ l. keys_of m (take i xs) ++ l) (cond-false (is_at m (get_or xs i blank_leaf)) (key_at (get_or xs i blank_leaf)) [] n)
+      keys-more ∙ ap (λ l. keys_of m (take i xs) ++ l) (cond-false (is_at m (get_or xs i blank_leaf)) (key_at (get_or xs i blank_leaf)) [] n)
       ∙ append-nil (keys_of m (take i xs))
 
-  told_same : (e : ℕ) → is_at m (get_or xs i blank_leaf) ≡ false → Told xs i m e → Told xs (i + 1) m e
-  told_same zero n told = elsewhere n ∙ told
-  told_same (suc j) n told = λ l. elsewhere n ∙ told l
+  told_same : (e : seat.Seat) → is_at m (get_or xs i blank_leaf) ≡ false → Told xs i m e → Told xs (i + 1) m e
+  told_same Nowhere n told = elsewhere n ∙ told
+  told_same (At j) n told = (omega (arith, told.0), elsewhere n ∙ told.1)
+  told_same Several n told = tt
 
-  -- m sits at the leaf, and at none before
-  told-first : (e : ℕ) → e ≡ 0 → Told xs i m e → Told xs (i + 1) m (suc i)
-  told-first zero z told = λ l. one_more ∙ ap (λ k. k ++ own_key m (get_or xs i blank_leaf)) told
-  told-first (suc j) z told = absurd (omega arith)
+  -- m sits at the leaf
+  told_there : (e : seat.Seat) → Told xs i m e → Told xs (i + 1) m (one_more (record { 0 = i }) e)
+  told_there Nowhere told = (omega arith, keys-more ∙ ap (λ k. k ++ own_key m (get_or xs i blank_leaf)) told)
+  told_there (At j) told = tt
+  told_there Several told = tt
 
-  told_more : (e f : ℕ) → length xs ≤ 65534 → f ≡ noted (is_at m (get_or xs i blank_leaf)) i e → Told xs i m e → Told xs (i + 1) m f
-  told_more e f few is told =
+  told_more : (e f : seat.Seat) → f ≡ noted (is_at m (get_or xs i blank_leaf)) (record { 0 = i }) e → Told xs i m e → Told xs (i + 1) m f
+  told_more e f is told =
       subst (Told xs (i + 1) m) (sym is)
-      (cond_both (is_at m (get_or xs i blank_leaf)) (cond (eqb e 0) (suc i) 65535) e (Told xs (i + 1) m)
-      (λ a. cond_both (eqb e 0) (suc i) 65535 (Told xs (i + 1) m) (λ z. told-first e (eqb-true e 0 z) told) (λ z l. absurd (omega arith)))
-      (λ n. told_same e n told))
+      (cond_both (is_at m (get_or xs i blank_leaf)) (one_more (record { 0 = i }) e) e (Told xs (i + 1) m) (λ a. told_there e told) (λ n. told_same e n told))
 
 -- one leaf more
-pub all_more : {K : Type 0} (xs : List (Leaf K)) (x : Leaf K) (i : ℕ) (es fs : List ℕ) → i < length xs → length xs ≤ 65534 → x ≡ get_or xs i blank_leaf → length fs ≡ length es →
-    Noted x i es fs → ToldAll xs i es → ToldAll xs (i + 1) fs
-all_more xs x i es fs b few is len noted-all told m l =
-    told_more xs i m b (get_or es m 0) (get_or fs m 0) few (noted-all m (omega arith) ∙ ap (λ (y : Leaf _). noted (is_at m y) i (get_or es m 0)) is) (told m (omega arith))
+pub all_more : {K : Type 0} (xs : List (Leaf K)) (x : Leaf K) (i : ℕ) (es fs : List seat.Seat) → i < length xs → x ≡ get_or xs i blank_leaf → length fs ≡ length es →
+    Noted x (record { 0 = i }) es fs → ToldAll xs i es → ToldAll xs (i + 1) fs
+all_more xs x i es fs b is len noted-all told m l =
+    told_more xs i m b (get_or es m Nowhere) (get_or fs m Nowhere) (noted-all m (omega arith) ∙ ap (λ (y : Leaf _). noted (is_at m y) (record { 0 = i }) (get_or es m Nowhere)) is) (told m (omega arith))
 
 -- no leaf yet
-pub all_none : {K : Type 0} (xs : List (Leaf K)) (es : List ℕ) → ((m : ℕ) → m < length es → get_or es m 0 ≡ 0) → ToldAll xs 0 es
+pub all_none : {K : Type 0} (xs : List (Leaf K)) (n : ℕ) (es : List seat.Seat) → es ≡ replicate n Nowhere → ToldAll xs 0 es
 unfolding keys_of
-all_none xs es z m l = subst (Told xs 0 m) (sym (z m l)) refl
+all_none xs n es e m l = subst (Told xs 0 m) (sym (ap (λ (l : List seat.Seat). get_or l m Nowhere) e ∙ get_or-replicate n m Nowhere Nowhere (omega (arith, ap length e, length-replicate n Nowhere)))) refl
 
--- every leaf
-seat-told : {K : Type 0} (t : Tree K) (i m e : ℕ) → length (line t) ≤ i → Told (line t) i m e → Seat t m e
-seat-told t i m zero b told = keys-line m t ∙ ap (keys_of m) (sym (take_all i (line t) b)) ∙ told
-seat-told t i m (suc j) b told = λ l. keys-line m t ∙ ap (keys_of m) (sym (take_all i (line t) b)) ∙ told l
+seat-told : {K : Type 0} (t : Tree K) (i m : ℕ) (e : seat.Seat) → i ≡ length (line t) → Told (line t) i m e → Seat t m e
+seat-told t i m Nowhere b told = keys-line m t ∙ ap (keys_of m) (sym (take_all i (line t) (omega arith))) ∙ told
+seat-told t i m (At j) b told = (omega (arith, told.0), keys-line m t ∙ ap (keys_of m) (sym (take_all i (line t) (omega arith))) ∙ told.1)
+seat-told t i m Several b told = tt
 
-pub all_told : {K : Type 0} (t : Tree K) (i : ℕ) (es : List ℕ) → length (line t) ≤ i → ToldAll (line t) i es → Seats t es
-all_told t i es b told m l = seat-told t i m (get_or es m 0) b (told m l)
+pub all_told : {K : Type 0} (t : Tree K) (i : ℕ) (es : List seat.Seat) → i ≡ length (line t) → ToldAll (line t) i es → Seats t es
+all_told t i es b told m l = seat-told t i m (get_or es m Nowhere) b (told m l)
 
--- the key of a member whose entry names a leaf
-pub key-told : (h : ℕ) (ns : List Node) (m e : ℕ) (d : Node) → length ns ≡ span h → (e ≡ 0 → ⊥) → 2 * (e - 1) < length ns →
-    Seat (tree_of h ns) m e → own_key m (leaf_of (get_or ns (2 * (e - 1)) d)) ≡ leaf_key m (tree_of h ns)
-key-told h ns m zero d len some b told = absurd (some refl)
-key-told h ns m (suc j) d len some b told =
-    let at : suc j - 1 ≡ j = omega arith in
-    let read : leaf_of (get_or ns (2 * (suc j - 1)) d) ≡ get_or (line (tree_of h ns)) j blank_leaf =
-    ap leaf_of (get_or_default ns (2 * (suc j - 1)) d no_node b ∙ ap (λ (k : ℕ). get_or ns (2 * k) no_node) at) ∙ sym (line_at h ns j (omega arith)) in
-    ap (own_key m) read ∙ sym (told (omega (arith, line-length h ns)))
+-- an entry that was looked up
+pub seat-read : {K : Type 0} (t : Tree K) (es : List seat.Seat) (m k : ℕ) (e : seat.Seat) (i : LeafIndex) → Seats t es → k ≡ m →
+    (k < length es) × ((d : seat.Seat) → e ≡ get_or es k d) → e ≡ At i → Seat t m (At i)
+seat-read t es m k e i told same read is =
+    subst (Seat t m) (ap (λ (j : ℕ). get_or es j Nowhere) (sym same) ∙ sym (read.1 Nowhere) ∙ is) (told m (omega (arith, same, read.0)))
+
+-- the node of a leaf, and its key if the member sits there
+module _ (h : ℕ) (ns : List Node) (len : length ns ≡ span h) where
+  pub leaf_below : (j : ℕ) → j < length (line (tree_of h ns)) → 2 * j < length ns
+  leaf_below j b = omega (arith, line-length h ns)
+
+  pub key-read : (m j : ℕ) (d : Node) → j < length (line (tree_of h ns)) → own_key m (leaf_of (get_or ns (2 * j) d)) ≡ own_key m (get_or (line (tree_of h ns)) j blank_leaf)
+  key-read m j d b =
+      ap (λ n. own_key m (leaf_of n)) (get_or_default ns (2 * j) d no_node (leaf_below j b)) ∙ ap (own_key m) (sym (line_at h ns j (omega (arith, leaf_below j b, len))))
+
+  -- the leaf of the node at an even index
+  pub leaf-read : (i : ℕ) (x : Node) → i < length ns → i % 2 ≡ 0 → x ≡ get_or ns i x → (i / 2 < length (line (tree_of h ns))) × (leaf_of x ≡ get_or (line (tree_of h ns)) (i / 2) blank_leaf)
+  leaf-read i x b even is =
+      let twice : 2 * (i / 2) ≡ i = omega arith in
+      (omega (arith, line-length h ns), ap leaf_of (is ∙ get_or_default ns i x no_node b ∙ ap (λ (k : ℕ). get_or ns k no_node) (sym twice)) ∙ sym (line_at h ns (i / 2) (omega (arith, b, len))))

@@ -71,22 +71,22 @@ fn add_in(
 impl RatchetTree {
     // A tree of one leaf, with its founder.
     pub fn founded(
-        heap: Global,
+        alloc: Global,
         member: MemberId,
         key: PublicKey,
     ) -> Result<RatchetTree, AllocError>
         ensures { IfOk result (λ t. the_tree t ≡ leaf (occupied member.0 key)) }
     {
-        let mut nodes = Vec::new(heap);
+        let mut nodes = Vec::new(alloc);
         nodes.push(Node::Leaf(Leaf::Occupied { member, key }))?;
         Ok(RatchetTree { nodes, depth: 0 })
     }
 
     // A copy that has a blank leaf: where there was none, the tree doubles and the old one is the left half.
-    fn with_room(&self, heap: Global) -> Result<RatchetTree, TreeError>
+    fn with_room(&self, alloc: Global) -> Result<RatchetTree, TreeError>
         ensures { Grown self.now result }
     {
-        let mut nodes = copy_nodes(heap, &self.nodes)?;
+        let mut nodes = copy_nodes(alloc, &self.nodes)?;
         let depth = self.depth;
         if !self.as_part().is_full() {
             return Ok(RatchetTree { nodes, depth });
@@ -104,13 +104,13 @@ impl RatchetTree {
     // The tree with the newcomer at the leftmost blank leaf, unmerged at every keyed parent above it.
     pub fn with_member(
         &self,
-        heap: Global,
+        alloc: Global,
         member: MemberId,
         key: PublicKey,
     ) -> Result<RatchetTree, TreeError>
         ensures { Joined member.0 key self.now result }
     {
-        let mut next = self.with_room(heap)?;
+        let mut next = self.with_room(alloc)?;
         let depth = next.depth;
         add_in(&mut next.nodes, depth, member, key)?;
         Ok(next)

@@ -17,26 +17,14 @@ impl<'a> Part<'a> {
     pub fn is_seated(self, member: MemberId) -> bool
         ensures { result ≡ seated member.0 (part_tree self.entry) }
     {
-        let nodes = self.nodes;
-        for leaf in 0..nodes.len() / 2 + 1 {
-            if nodes[2 * leaf].seats(member) {
-                return true;
-            }
-        }
-        false
+        self.nodes.iter().step_by(2).any(|node| node.seats(member))
     }
 
     // Is no leaf blank?
     pub fn is_full(self) -> bool
         ensures { result ≡ full (part_tree self.entry) }
     {
-        let nodes = self.nodes;
-        for leaf in 0..nodes.len() / 2 + 1 {
-            if !nodes[2 * leaf].is_occupied() {
-                return false;
-            }
-        }
-        true
+        self.nodes.iter().step_by(2).all(|node| node.is_occupied())
     }
 
     // How many leaves are occupied.
@@ -54,19 +42,13 @@ impl<'a> Part<'a> {
         ensures { option_map (λ (i : Index). i.0) result ≡ position-of member.0 (part_tree self.entry) }
     {
         match self.split() {
-            Split::Leaf(node) => {
-                if node.seats(member) {
-                    Some(LeafIndex(0))
-                } else {
-                    None
-                }
-            }
+            Split::Leaf(node) => node.seats(member).then_some(LeafIndex(0)),
             Split::Parent(left, _, right) => match left.position(member) {
                 Some(leaf) => Some(leaf),
-                None => match right.position(member) {
-                    Some(leaf) => Some(LeafIndex(left.nodes.len() / 2 + 1 + leaf.0)),
-                    None => None,
-                },
+                None => {
+                    let leaf = right.position(member)?;
+                    Some(LeafIndex(left.nodes.len() / 2 + 1 + leaf.0))
+                }
             },
         }
     }

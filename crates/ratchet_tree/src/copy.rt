@@ -10,7 +10,7 @@ use crate::tree::RatchetTree;
 use std::alloc::{AllocError, Global};
 
 // Appends a copy of the node. Each kind is pushed where it is made: a node is large, and is moved only once so.
-fn push_copy(heap: Global, node: &Node, copies: &mut Vec<Node>) -> Result<(), AllocError>
+fn push_copy(alloc: Global, node: &Node, copies: &mut Vec<Node>) -> Result<(), AllocError>
     ensures { Appends (map seen copies.old.items) (seen node.now ∷ []) (map seen copies.new.items) result }
 {
     match node {
@@ -24,7 +24,7 @@ fn push_copy(heap: Global, node: &Node, copies: &mut Vec<Node>) -> Result<(), Al
         Node::Parent(parent) => match parent {
             Parent::Blank => copies.push(Node::Parent(Parent::Blank))?,
             Parent::Keyed { key, unmerged } => {
-                let unmerged = Vec::from_slice(heap, unmerged)?;
+                let unmerged = Vec::from_slice(alloc, unmerged)?;
                 copies.push(Node::Parent(Parent::Keyed {
                     key: *key,
                     unmerged,
@@ -35,12 +35,12 @@ fn push_copy(heap: Global, node: &Node, copies: &mut Vec<Node>) -> Result<(), Al
     Ok(())
 }
 
-pub(crate) fn copy_nodes(heap: Global, nodes: &[Node]) -> Result<Vec<Node>, AllocError>
+pub(crate) fn copy_nodes(alloc: Global, nodes: &[Node]) -> Result<Vec<Node>, AllocError>
     ensures { IfOk result (λ v. map seen v.items ≡ map seen nodes.now) }
 {
-    let mut copies = Vec::with_capacity(heap, nodes.len())?;
+    let mut copies = Vec::with_capacity(alloc, nodes.len())?;
     for node in nodes {
-        push_copy(heap, node, &mut copies)?;
+        push_copy(alloc, node, &mut copies)?;
     }
     Ok(copies)
 }
@@ -69,10 +69,10 @@ pub(crate) fn double(nodes: &mut Vec<Node>) -> Result<(), AllocError>
 
 impl RatchetTree {
     // The same tree, in memory of its own.
-    pub fn copy(&self, heap: Global) -> Result<RatchetTree, AllocError>
+    pub fn copy(&self, alloc: Global) -> Result<RatchetTree, AllocError>
         ensures { IfOk result (λ t. the_tree t ≡ the_tree self.now) }
     {
-        let nodes = copy_nodes(heap, &self.nodes)?;
+        let nodes = copy_nodes(alloc, &self.nodes)?;
         Ok(RatchetTree {
             nodes,
             depth: self.depth,

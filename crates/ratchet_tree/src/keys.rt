@@ -12,7 +12,7 @@ ghost use Rattle.ratchet_tree.specs.Seats.{Seats};
 use crate::member::{MemberId, PublicKey};
 use crate::node::{Node, Parent};
 use crate::part::Part;
-use crate::seats::seats_of;
+use crate::seats::{Seat, seats_of};
 use crate::split::Split;
 use std::alloc::{AllocError, Global};
 
@@ -54,12 +54,7 @@ fn push_some(out: &mut Vec<PublicKey>, key: Option<PublicKey>) -> Result<(), All
 pub fn is_among(members: &[MemberId], member: MemberId) -> bool
     ensures { result ≡ is_unmerged member.0 (numbers members.now) }
 {
-    for other in members {
-        if other.0 == member.0 {
-            return true;
-        }
-    }
-    false
+    members.contains(&member)
 }
 
 impl<'a> Part<'a> {
@@ -90,40 +85,33 @@ impl<'a> Part<'a> {
         Ok(())
     }
 
-    // Appends the member's leaf key, looked up where the table says; where that says nothing, all leaves are looked at.
+    // Appends the member's leaf key, looked up where the table says; where that doesn't say it, all leaves are looked at.
     fn push_key_at(
         self,
-        seats: &[u16],
+        seats: &[Seat],
         member: MemberId,
         out: &mut Vec<PublicKey>,
     ) -> Result<(), AllocError>
         requires { Seats (part_tree self) seats.now }
         ensures { Appends out.old.items (leaf_key member.0 (part_tree self.entry)) out.new.items result }
     {
-        let index = usize::from(member.0);
-        if index >= seats.len() {
-            return self.push_leaf_key(member, out);
+        match seats.get(usize::from(member.0)) {
+            Some(Seat::Nowhere) => Ok(()),
+            Some(Seat::At(leaf)) => push_some(out, self.nodes[2 * leaf.0].leaf_key_of(member)),
+            Some(Seat::Several) | None => self.push_leaf_key(member, out),
         }
-        let seat = usize::from(seats[index]);
-        if seat == 0 {
-            return Ok(());
-        }
-        if 2 * (seat - 1) >= self.nodes.len() {
-            return self.push_leaf_key(member, out);
-        }
-        push_some(out, self.nodes[2 * (seat - 1)].leaf_key_of(member))
     }
 
     // Appends the leaf keys of these members, looked up by a table.
     fn push_many_leaf_keys(
         self,
-        heap: Global,
+        alloc: Global,
         members: &[MemberId],
         out: &mut Vec<PublicKey>,
     ) -> Result<(), AllocError>
         ensures { Appends out.old.items (leaf_keys (numbers members.now) (part_tree self.entry)) out.new.items result }
     {
-        let seats = seats_of(heap, self, members)?;
+        let seats = seats_of(alloc, self, members)?;
         for member in members {
             self.push_key_at(&seats, *member, out)?;
         }
@@ -133,7 +121,7 @@ impl<'a> Part<'a> {
     // Appends the leaf keys of these members.
     fn push_leaf_keys(
         self,
-        heap: Global,
+        alloc: Global,
         members: &[MemberId],
         out: &mut Vec<PublicKey>,
     ) -> Result<(), AllocError>
@@ -142,12 +130,12 @@ impl<'a> Part<'a> {
         if members.len() <= FEW {
             self.push_few_leaf_keys(members, out)
         } else {
-            self.push_many_leaf_keys(heap, members, out)
+            self.push_many_leaf_keys(alloc, members, out)
         }
     }
 
     // Appends the fewest keys that reach everybody seated here.
-    fn push_resolution(self, heap: Global, out: &mut Vec<PublicKey>) -> Result<(), AllocError>
+    fn push_resolution(self, alloc: Global, out: &mut Vec<PublicKey>) -> Result<(), AllocError>
         ensures { Appends out.old.items (resolution-of (part_tree self.entry)) out.new.items result }
     {
         match self.split() {
@@ -155,22 +143,22 @@ impl<'a> Part<'a> {
             Split::Parent(left, node, right) => match node.node_key() {
                 Some(keyed) => {
                     out.push(keyed.key)?;
-                    self.push_leaf_keys(heap, keyed.unmerged, out)
+                    self.push_leaf_keys(alloc, keyed.unmerged, out)
                 }
                 None => {
-                    left.push_resolution(heap, out)?;
-                    right.push_resolution(heap, out)
+                    left.push_resolution(alloc, out)?;
+                    right.push_resolution(alloc, out)
                 }
             },
         }
     }
 
     // The fewest keys that reach everybody seated here.
-    pub fn resolution(self, heap: Global) -> Result<Vec<PublicKey>, AllocError>
+    pub fn resolution(self, alloc: Global) -> Result<Vec<PublicKey>, AllocError>
         ensures { IfOk result (λ v. v.items ≡ resolution-of (part_tree self.entry)) }
     {
-        let mut keys = Vec::new(heap);
-        self.push_resolution(heap, &mut keys)?;
+        let mut keys = Vec::new(alloc);
+        self.push_resolution(alloc, &mut keys)?;
         Ok(keys)
     }
 }
@@ -180,12 +168,9 @@ impl Node {
     fn node_key_held(&self, member: MemberId) -> Option<PublicKey>
         ensures { option_to_list result ≡ node_key_held member.0 (parent_of self.now) }
     {
-        let keyed = self.node_key()?;
-        if is_among(keyed.unmerged, member) {
-            None
-        } else {
-            Some(keyed.key)
-        }
+        self.node_key()
+            .filter(|keyed| !is_among(keyed.unmerged, member))
+            .map(|keyed| keyed.key)
     }
 }
 

@@ -1,39 +1,47 @@
-// A table of who sits where, by members' numbers: one way over the leaves then serves many members.
-ghost use Rattle.std.specs.Prelude.{◌≡◌, ℕ, suc, ◌<◌, ◌≤◌, length, IfOk, if◌then◌else◌, nat_eq, slice_index, slice_index_or};
+// A table of where members sit, by their numbers: one way over the leaves then serves many members.
+ghost use Rattle.std.specs.Prelude.{◌≡◌, IfOk};
 ghost use Rattle.ratchet_tree.specs.Nodes.{leaf_of};
 ghost use Rattle.ratchet_tree.specs.Parts.{part_tree};
-ghost use Rattle.ratchet_tree.specs.Seats.{Noted, NotedMember, Seats};
+ghost use Rattle.ratchet_tree.specs.Seats.{Noted, NotedMember, Seats, one_more};
 
 use crate::member::MemberId;
 use crate::node::Node;
 use crate::part::Part;
 use std::alloc::{AllocError, Global};
+use tree_math::LeafIndex;
 
-// The entry of who sits at more than one leaf.
-const TWICE: u16 = 65535;
+// Where a member sits.
+#[derive(Clone, Copy, PartialEq, Eq, Debug)]
+pub(crate) enum Seat {
+    Nowhere,
+    At(LeafIndex),
+    Several,
+}
 
-// A member's entry with one leaf more.
-fn with_leaf(entry: u16, leaf: u16) -> u16
-    requires { leaf < 65535 }
-    ensures { result ≡ (if nat_eq entry 0 then suc leaf else 65535) }
-{
-    if entry == 0 { leaf + 1 } else { TWICE }
+impl Seat {
+    // The same with one leaf more.
+    fn and_at(self, leaf: LeafIndex) -> Seat
+        ensures { result ≡ one_more leaf self }
+    {
+        match self {
+            Seat::Nowhere => Seat::At(leaf),
+            Seat::At(_) | Seat::Several => Seat::Several,
+        }
+    }
 }
 
 // Notes that the member sits at the leaf, where the table has an entry for it.
-fn note_member(seats: &mut [u16], member: MemberId, leaf: u16)
-    requires { leaf < 65535 }
+fn note_member(seats: &mut [Seat], member: MemberId, leaf: LeafIndex)
     ensures { NotedMember member.0 leaf seats.old seats.new }
 {
     let index = usize::from(member.0);
     if index < seats.len() {
-        seats[index] = with_leaf(seats[index], leaf);
+        seats[index] = seats[index].and_at(leaf);
     }
 }
 
 // Notes who sits at the node, taken as a leaf.
-fn note_leaf(seats: &mut [u16], node: &Node, leaf: u16)
-    requires { leaf < 65535 }
+fn note_leaf(seats: &mut [Seat], node: &Node, leaf: LeafIndex)
     ensures { Noted (leaf_of node.now) leaf seats.old seats.new }
 {
     if let Some(occupant) = node.occupant() {
@@ -41,40 +49,22 @@ fn note_leaf(seats: &mut [u16], node: &Node, leaf: u16)
     }
 }
 
-// Notes who sits at each leaf of the part, in a table that has nobody yet.
-fn note_leaves(seats: &mut [u16], part: Part)
-    requires { (m : ℕ) → m < length seats.old → slice_index seats.old m ≡ 0 }
-    ensures { Seats (part_tree part.entry) seats.new }
-{
-    let nodes = part.nodes;
-    for leaf in 0..nodes.len() / 2 + 1 {
-        note_leaf(seats, &nodes[2 * leaf], leaf as u16);
-    }
-}
-
-// The largest number of these.
-fn largest(members: &[MemberId]) -> u16
-    ensures { (k : ℕ) → k < length members.now → (slice_index_or members.now k (record { 0 = 0 })).0 ≤ result }
-{
-    let mut most = 0;
-    for member in members {
-        if member.0 > most {
-            most = member.0;
-        }
-    }
-    most
-}
-
 // Where the part seats these members; the table has no more entries than they need.
 pub(crate) fn seats_of(
-    heap: Global,
+    alloc: Global,
     part: Part,
     members: &[MemberId],
-) -> Result<Vec<u16>, AllocError>
+) -> Result<Vec<Seat>, AllocError>
     ensures { IfOk result (λ v. Seats (part_tree part.entry) v.items) }
 {
-    let mut seats = Vec::new(heap);
-    seats.resize(usize::from(largest(members)) + 1, 0)?;
-    note_leaves(&mut seats, part);
+    let largest = members.iter().map(|member| member.0).max().unwrap_or(0);
+    let mut seats = Vec::new(alloc);
+    seats.resize(usize::from(largest) + 1, Seat::Nowhere)?;
+    // leaves stand at the even indices
+    for (index, node) in part.nodes.iter().enumerate() {
+        if index % 2 == 0 {
+            note_leaf(&mut seats, node, LeafIndex(index / 2));
+        }
+    }
     Ok(seats)
 }

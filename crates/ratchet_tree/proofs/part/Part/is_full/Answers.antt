@@ -1,25 +1,16 @@
-use Rattle.std.proofs.Common.{not, sym, ap, ◌∙◌, arith}
+use Rattle.std.proofs.Common.{rules, ◌≡◌, ◌∙◌, sym, subst, ap, Bor}
 use Rattle.theory.specs.Tree.{is_blank}
-use Rattle.ratchet_tree.specs.Nodes.{leaf_of}
+use Rattle.std.specs.Iterator.Runs.{ItemsMapTo}
+use Rattle.ratchet_tree.specs.declared.node.Node.{Node}
 use Rattle.ratchet_tree.specs.Parts.{part_tree}
-use Rattle.ratchet_tree.proofs.Leaves.{leaf-below, one_passes, none_more, none_passes, full-line, not-not}
+use Rattle.ratchet_tree.proofs.Leaves.{full-line}
+use Rattle.ratchet_tree.proofs.Strides.{every_leaf}
 use Rattle.ratchet_tree.proofs.part.Part.is_full.Goals as goal
-
-pub bounds-nodes-leaf : goal.bounds-nodes-leaf
-bounds-nodes-leaf c = omega (arith, leaf-below c.args.self.height c.args.self.nodes.now c.args.self.whole c.loop-leaf.leaf c.loop-leaf-test.true)
-
-pub loop-leaf-preserved : goal.loop-leaf-preserved
-loop-leaf-preserved c =
-    none_more c.args.self.height c.args.self.nodes.now c.args.self.whole is_blank c.loop-leaf.leaf c.index-nodes-leaf.result
-    c.loop-leaf-test.true c.index-nodes-leaf.is (not-not (is_blank (leaf_of c.index-nodes-leaf.result)) ∙ ap not (sym c.if-not-is_occupied.ensures)) c.loop-leaf.invariant
-
-pub returns-then-not-is_occupied : goal.returns-then-not-is_occupied
-returns-then-not-is_occupied c =
-    sym (full-line (part_tree c.args.self)
-    ∙ ap not (one_passes c.args.self.height c.args.self.nodes.now c.args.self.whole is_blank c.loop-leaf.leaf c.index-nodes-leaf.result
-    c.loop-leaf-test.true c.index-nodes-leaf.is (not-not (is_blank (leaf_of c.index-nodes-leaf.result)) ∙ ap not (sym c.if-not-is_occupied.ensures))))
 
 pub returns : goal.returns
 returns c =
-    sym (full-line (part_tree c.args.self)
-    ∙ ap not (none_passes c.args.self.height c.args.self.nodes.now c.args.self.whole is_blank c.loop-leaf.leaf c.loop-leaf-test.false c.loop-leaf.invariant))
+    let p = c.all.ensures.runs.0 in
+    let q = c.step_by.ensures.runs p p.seen c.all.ensures.runs.1 in
+    let r = c.iter.ensures.runs q.0 q.0.seen in
+    let same : q.0.from.rest.now ≡ c.args.self.nodes.now = ap (λ i. i.rest.now) q.1 ∙ c.iter.ensures.rest in
+    every_leaf p q.0 c.args.self.height c.args.self.nodes.now c.args.self.whole q.2 (subst (λ xs. ItemsMapTo q.0 (λ (y : Bor Node). y.now) xs) same r) is_blank _ _ (search rules) (search rules) c.all.result c.all.ensures.runs.2 ∙ sym (full-line (part_tree c.args.self))
