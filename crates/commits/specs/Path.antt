@@ -1,12 +1,14 @@
 -- The path that the code lays.
--- `is_none`: is there no key to seal to; `key_from`: the node key of a level;
+-- `is_none`: is there no key to seal to; `key_from`: the node key of a level; `path_laid`: a tree with a member's path of these keys;
 -- `left_tree`, `right_tree`: the halves of a line of nodes, as trees; `IsOwnHalf`: the half that a member sits in.
 -- Assumes nothing.
 use Rattle.std.specs.Prelude.{◌≡◌, ℕ, ◌+◌, ◌-◌, ◌/◌, Bool, true, false, not, List, [], ◌∷◌, length, take, drop, Option, Some, None, slice_index_or, ◌⊎◌}
+use Rattle.theory.specs.Path.{Laid, laid}
 use Rattle.theory.specs.Tree.{Tree, resolution, seated}
 use Rattle.tree_math.specs.Span.{span}
 use Rattle.ratchet_tree.specs.Nodes.{tree_of}
 use Rattle.ratchet_tree.specs.declared.node.Node.{Node}
+use Rattle.ratchet_tree.specs.declared.member.MemberId.{MemberId}
 use Rattle.ratchet_tree.specs.declared.member.PublicKey.{PublicKey}
 use Rattle.commits.specs.declared.path.OwnHalf.{OwnHalf}
 use Rattle.commits.specs.declared.path.PathKeys.{PathKeys}
@@ -18,6 +20,10 @@ is_none (k ∷ ks) = false
 -- the i-th key from below; the leaf key past the last one
 abbrev pub key_from : PathKeys → ℕ → PublicKey
 key_from k i = slice_index_or k.nodes.now i k.leaf
+
+-- the tree with m's path, by these keys
+abbrev pub path_laid : MemberId → PathKeys → Tree PublicKey → Laid PublicKey
+path_laid m k t = laid m.0 k.leaf (key_from k) t
 
 -- the halves of a line of nodes of height h, as trees
 abbrev pub left_tree : ℕ → List Node → Tree PublicKey

@@ -1,10 +1,9 @@
 // A commit carried out on a tree: what is asked, then the path. The tree changes only when all of it is done.
 ghost use Rattle.std.specs.Prelude.{◌≡◌, ◌+◌, map, length, IfOk, OnOk, OnErr};
-ghost use Rattle.theory.specs.Path.{laid};
 ghost use Rattle.ratchet_tree.specs.Trees.{the_tree};
 ghost use Rattle.commits.specs.Apply.{Applies, Asked, Counting, MessageCounts, Ready, welcomes};
 ghost use Rattle.commits.specs.Commits.{change_of, commit_of};
-ghost use Rattle.commits.specs.Path.{key_from};
+ghost use Rattle.commits.specs.Path.{path_laid};
 ghost use Rattle.commits.specs.Targets.{target_of};
 
 use crate::change::{Change, Commit, Epoch};
@@ -23,7 +22,8 @@ pub struct CommitKeys<'a> {
     pub path: PathKeys<'a>,
 }
 
-// What a commit's message holds: how many node keys and boxes, and whom the path is sealed to.
+// What a commit's message holds: how many node keys and boxes, and whom the path is sealed to. The two numbers are
+// fields of its own, and no Counts: callers read them here by name.
 #[derive(Drop)]
 pub struct Applied {
     pub node_keys: usize,
@@ -51,7 +51,8 @@ fn asked(
     }
 }
 
-// The tree that the path is laid on, or the refusal.
+// The tree that the path is laid on, or the refusal. Tree, epoch and commit stay three parameters, here and below: only
+// `apply` writes the tree, so a struct of the three would be made for each call just to be taken apart.
 pub fn ready(
     alloc: Global,
     tree: &RatchetTree,
@@ -73,9 +74,9 @@ fn seal_and_lay(
     commit: Commit,
     path: PathKeys,
 ) -> Result<Applied, AllocError>
-    ensures tree { OnOk result (the_tree tree.new ≡ (laid commit.committer.0 path.entry.leaf (key_from path.entry) (the_tree tree.old)).tree) }
-    ensures keys { IfOk result (λ a. a.node_keys ≡ (laid commit.committer.0 path.entry.leaf (key_from path.entry) (the_tree tree.old)).levels) }
-    ensures targets { IfOk result (λ a. map target_of a.targets.items ≡ (laid commit.committer.0 path.entry.leaf (key_from path.entry) (the_tree tree.old)).targets) }
+    ensures tree { OnOk result (the_tree tree.new ≡ (path_laid commit.committer path.entry (the_tree tree.old)).tree) }
+    ensures keys { IfOk result (λ a. a.node_keys ≡ (path_laid commit.committer path.entry (the_tree tree.old)).levels) }
+    ensures targets { IfOk result (λ a. map target_of a.targets.items ≡ (path_laid commit.committer path.entry (the_tree tree.old)).targets) }
     ensures boxes { IfOk result (λ a. a.boxes ≡ length a.targets.items + welcomes (change_of commit.change)) }
     ensures unchanged { OnErr result (tree.new ≡ tree.old) }
 {

@@ -1,4 +1,4 @@
-// How many node keys and boxes the committer's path has, counted without memory.
+// How many node keys and boxes the committer's path has. Counted without memory, and so not by the lists of keys.
 // Sums stop at the largest number, so that no list of unmerged members is too long to count.
 ghost use Rattle.std.specs.Prelude.{◌≡◌, ◌+◌, length};
 ghost use Rattle.theory.specs.Tree.{leaf_key, leaf_keys, resolution};

@@ -21,6 +21,7 @@ fn allow_removal(tree: &RatchetTree, committer: MemberId, member: MemberId) -> R
     Ok(())
 }
 
+// No number is above NOBODY's.
 fn allow_addition(tree: &RatchetTree, committer: MemberId, member: MemberId) -> Result<(), Refusal>
     ensures { option_map number_of (result_err result) ≡ change_refusal committer.0 (change_of (Change.Add member)) (the_tree tree.now) }
 {

@@ -1,13 +1,12 @@
 // The committer's path: a new leaf key, and node keys from its leaf to the top.
 ghost use Rattle.std.specs.Prelude.{◌≡◌, ◌≤◌, not, [], length, if◌then◌else◌, MatchOption};
 ghost use Rattle.theory.specs.Limits.{max_depth};
-ghost use Rattle.theory.specs.Path.{laid};
 ghost use Rattle.theory.specs.Tree.{blank_parent, is_at, keyed, occupied, resolution};
 ghost use Rattle.tree_math.specs.Span.{span};
 ghost use Rattle.ratchet_tree.specs.Nodes.{leaf_of, parent_of, tree_of};
 ghost use Rattle.ratchet_tree.specs.Parts.{part_tree};
 ghost use Rattle.ratchet_tree.specs.Trees.{the_tree};
-ghost use Rattle.commits.specs.Path.{IsOwnHalf, is_none, key_from};
+ghost use Rattle.commits.specs.Path.{IsOwnHalf, is_none, key_from, path_laid};
 
 use ratchet_tree::{Leaf, MemberId, Node, Parent, Part, PublicKey, RatchetTree, Split};
 use std::alloc::Global;
@@ -105,8 +104,8 @@ fn lay_in(
     keys: PathKeys,
 ) -> usize
     requires { (length nodes.old ≡ span height) × (height ≤ max_depth) }
-    ensures tree { tree_of height nodes.new ≡ (laid member.0 keys.entry.leaf (key_from keys.entry) (tree_of height nodes.old)).tree }
-    ensures value { result ≡ (laid member.0 keys.entry.leaf (key_from keys.entry) (tree_of height nodes.old)).levels }
+    ensures tree { tree_of height nodes.new ≡ (path_laid member keys.entry (tree_of height nodes.old)).tree }
+    ensures value { result ≡ (path_laid member keys.entry (tree_of height nodes.old)).levels }
 {
     if height == 0 {
         renew_leaf(&mut nodes[0], member, keys.leaf);
@@ -124,8 +123,8 @@ fn lay_in(
 
 // The committer takes its new leaf key and lays its node keys from its leaf to the top; answers how many that took.
 pub fn lay_path(alloc: Global, tree: &mut RatchetTree, committer: MemberId, keys: PathKeys) -> usize
-    ensures tree { the_tree tree.new ≡ (laid committer.0 keys.entry.leaf (key_from keys.entry) (the_tree tree.old)).tree }
-    ensures value { result ≡ (laid committer.0 keys.entry.leaf (key_from keys.entry) (the_tree tree.old)).levels }
+    ensures tree { the_tree tree.new ≡ (path_laid committer keys.entry (the_tree tree.old)).tree }
+    ensures value { result ≡ (path_laid committer keys.entry (the_tree tree.old)).levels }
 {
     let depth = tree.depth;
     lay_in(alloc, &mut tree.nodes, depth, committer, keys)

@@ -1,10 +1,8 @@
 // Whom the committer seals to: on each level, the keys of the resolution of the path's other side.
-ghost use Rattle.std.specs.Prelude.{◌≤◌, map, IfOk};
+ghost use Rattle.std.specs.Prelude.{◌≡◌, ◌≤◌, [], IfOk};
 ghost use Rattle.theory.specs.Limits.{max_depth};
-ghost use Rattle.theory.specs.Path.{sealed_to};
-ghost use Rattle.ratchet_tree.specs.Keys.{Appends};
 ghost use Rattle.ratchet_tree.specs.Parts.{part_tree};
-ghost use Rattle.commits.specs.Targets.{SealsOther, SealsPath, Targets, target_of};
+ghost use Rattle.commits.specs.Targets.{SealsOther, SealsPath, Targets};
 
 use ratchet_tree::{MemberId, Part, PublicKey, Sides, Split};
 use std::alloc::{AllocError, Global};
@@ -16,48 +14,48 @@ pub struct Target {
     pub level: usize,
 }
 
-fn push_sealed(keys: &[PublicKey], level: usize, out: &mut Vec<Target>) -> Result<(), AllocError>
-    ensures { Appends (map target_of out.old.items) (sealed_to level keys.now) (map target_of out.new.items) result }
-{
-    out.extend(keys.iter().map(|key| Target { key: *key, level }))
+// A path's targets from below, and how many levels it has.
+#[derive(Drop)]
+struct Sealed {
+    targets: Vec<Target>,
+    levels: usize,
 }
 
-// Seals to the other side of the path; answers the level above.
-fn seal_to(
-    alloc: Global,
-    other: Part,
-    level: usize,
-    out: &mut Vec<Target>,
-) -> Result<usize, AllocError>
-    requires { level ≤ max_depth }
-    ensures { SealsOther level (part_tree other.entry) out.old.items out.new.items result }
-{
-    let keys = other.resolution(alloc)?;
-    push_sealed(&keys, level, out)?;
-    if keys.is_empty() {
-        Ok(level)
-    } else {
-        Ok(level + 1)
+impl Sealed {
+    // No path yet.
+    fn new(alloc: Global) -> Sealed
+        ensures targets { result.targets.items ≡ [] }
+        ensures levels { result.levels ≡ 0 }
+    {
+        Sealed {
+            targets: Vec::new(alloc),
+            levels: 0,
+        }
+    }
+
+    // One parent more: the path is sealed to each key of the other side, and has a level more where there are any.
+    fn climbed(mut self, alloc: Global, other: Part) -> Result<Sealed, AllocError>
+        requires { self.levels ≤ max_depth }
+        ensures { SealsOther self (part_tree other.entry) result }
+    {
+        let level = self.levels;
+        let keys = other.resolution(alloc)?;
+        self.targets
+            .extend(keys.iter().map(|key| Target { key: *key, level }))?;
+        self.levels += !keys.is_empty() as usize;
+        Ok(self)
     }
 }
 
-// Seals along the path in a part; answers how many levels it has.
-fn push_targets(
-    alloc: Global,
-    part: Part,
-    member: MemberId,
-    out: &mut Vec<Target>,
-) -> Result<usize, AllocError>
-    ensures { SealsPath member.0 (part_tree part.entry) out.old.items out.new.items result }
+// The member's path in a part, sealed.
+fn seal_path(alloc: Global, part: Part, member: MemberId) -> Result<Sealed, AllocError>
+    ensures { SealsPath member.0 (part_tree part.entry) result }
 {
     match part.split() {
-        Split::Leaf(_) => Ok(0),
+        Split::Leaf(_) => Ok(Sealed::new(alloc)),
         Split::Parent(left, _, right) => match Sides::of(left, right, member) {
-            Some(sides) => {
-                let level = push_targets(alloc, sides.own, member, out)?;
-                seal_to(alloc, sides.other, level, out)
-            }
-            None => Ok(0),
+            Some(sides) => seal_path(alloc, sides.own, member)?.climbed(alloc, sides.other),
+            None => Ok(Sealed::new(alloc)),
         },
     }
 }
@@ -70,7 +68,5 @@ pub fn path_targets(
 ) -> Result<Vec<Target>, AllocError>
     ensures value { IfOk result (λ v. Targets committer.0 (part_tree part.entry) v.items) }
 {
-    let mut targets = Vec::new(alloc);
-    push_targets(alloc, part, committer, &mut targets)?;
-    Ok(targets)
+    Ok(seal_path(alloc, part, committer)?.targets)
 }

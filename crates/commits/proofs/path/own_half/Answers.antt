@@ -2,9 +2,6 @@ use mathlib.Core.Logic.{inl, inr}
 use Rattle.commits.proofs.Halving.{in-left, in-neither, in-right}
 use Rattle.commits.proofs.path.own_half.Goals as goal
 
-pub returns-in-Leaf : goal.returns-in-Leaf
-returns-in-Leaf c = λ above. absurd (above c.in-Leaf.ensures.0)
-
 pub returns-then-is_seated : goal.returns-then-is_seated
 returns-then-is_seated c =
     inl (in-left c.args.part c.in-Parent.left c.in-Parent.right c.in-Parent.field-1.now c.in-Parent.ensures c.args.committer.0 c.if-is_seated.ensures c.is_reached.ensures)
