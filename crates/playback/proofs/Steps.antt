@@ -8,10 +8,9 @@ use Rattle.ratchet_tree.specs.declared.member.PublicKey.{PublicKey}
 use Rattle.commits.specs.Commits.{commit_of}
 use Rattle.commits.specs.declared.change.Commit.{Commit}
 use Rattle.scripts.specs.Line.{InRange, line_bytes}
-use Rattle.scripts.specs.Lines.{lines_of}
 use Rattle.playback.specs.Report.{report_bytes}
 use Rattle.playback.specs.Play.{State, Answers, carried, Plays, start, next, after, reported}
-use Rattle.playback.specs.Steps.{Answer, Played}
+use Rattle.playback.specs.Steps.{Answer}
 
 -- the state and the bytes of a commit that was carried out, as the code has them
 pub carried-as : (s : State) (line : List ℕ) (c : Commit) (t : Tree PublicKey) (e : ℕ) (before done bytes : List ℕ) → InRange c → line ≡ line_bytes c →
@@ -36,33 +35,24 @@ pub report-as : (e e' b b' k k' : ℕ) (t t' : Tree PublicKey) → e ≡ e' → 
 report-as e e' b b' k k' t t' p q r s =
     ap (λ (x : ℕ). report_bytes x b k t) p ∙ ap (λ (x : ℕ). report_bytes e' x k t) q ∙ ap (λ (x : ℕ). report_bytes e' b' x t) r ∙ ap (report_bytes e' b' k') s
 
--- some of an input's lines were played, and the rest stands in `left`
-pub record SoFar (s : State) (input left : List ℕ) (t : State) (before after : List ℕ) : Type 0 where
+-- some of the lines were played, and these are left
+pub record SoFar (s : State) (lines left : List (List ℕ)) (t : State) (before after : List ℕ) : Type 0 where
   pub done : List (List ℕ)
   pub bytes : List ℕ
   pub plays : Plays s done t bytes
-  pub lines : lines_of input ≡ done ++ lines_of left
+  pub all : lines ≡ done ++ left
   pub appended : after ≡ before ++ bytes
 
-pub none_yet : (s : State) (input before : List ℕ) → SoFar s input input s before before
-none_yet s input before = record { done = []; bytes = []; plays = start; lines = refl; appended = sym (append-nil before) }
+pub none_yet : (s : State) (lines : List (List ℕ)) (before : List ℕ) → SoFar s lines lines s before before
+none_yet s lines before = record { done = []; bytes = []; plays = start; all = refl; appended = sym (append-nil before) }
 
-pub one_more : (s : State) (input left line behind : List ℕ) (t u : State) (before mid last : List ℕ) → SoFar s input left t before mid → lines_of left ≡ line ∷ lines_of behind →
-    Answer t line u mid last → SoFar s input behind u before last
-one_more s input left line behind t u before mid last f e a =
+pub one_more : (s : State) (lines left : List (List ℕ)) (line : List ℕ) (behind : List (List ℕ)) (t u : State) (before mid last : List ℕ) → SoFar s lines left t before mid → left ≡ line ∷ behind →
+    Answer t line u mid last → SoFar s lines behind u before last
+one_more s lines left line behind t u before mid last f e a =
     record {
       done = f.done ++ line ∷ [];
       bytes = f.bytes ++ a.bytes;
       plays = next f.plays line a.bytes a.answers;
-      lines = f.lines ∙ ap (λ x. f.done ++ x) e ∙ sym (append_assoc f.done (line ∷ []) (lines_of behind));
+      all = f.all ∙ ap (λ x. f.done ++ x) e ∙ sym (append_assoc f.done (line ∷ []) behind);
       appended = appended-more before mid last f.bytes a.bytes f.appended a.appended;
-    }
-
-pub all-played : (s : State) (input left : List ℕ) (t : State) (before after : List ℕ) → SoFar s input left t before after → lines_of left ≡ [] → Played s (lines_of input) before after
-all-played s input left t before after f e =
-    record {
-      end = t;
-      bytes = f.bytes;
-      appended = f.appended;
-      plays = subst (λ ls. Plays s ls t f.bytes) (sym (f.lines ∙ ap (λ x. f.done ++ x) e ∙ append-nil f.done)) f.plays;
     }

@@ -1,16 +1,16 @@
 // The lines that are printed: one for each commit, or the number of a refusal.
-ghost use Rattle.std.specs.Prelude.{[], ◌∷◌, ◌++◌};
-ghost use Rattle.theory.specs.Worked.{cells, leaf_cell, parent_cell};
+ghost use Rattle.std.specs.Prelude.{◌∷◌};
+ghost use Rattle.theory.specs.Worked.{cells};
 ghost use Rattle.scripts.specs.Decimal.{decimal};
 ghost use Rattle.commits.specs.Refusals.{number_of};
 ghost use Rattle.ratchet_tree.specs.Keys.{Appends};
-ghost use Rattle.ratchet_tree.specs.Nodes.{leaf_of, numbers, parent_of};
+ghost use Rattle.ratchet_tree.specs.Nodes.{numbers};
 ghost use Rattle.ratchet_tree.specs.Parts.{part_tree};
 ghost use Rattle.ratchet_tree.specs.Trees.{the_tree};
 ghost use Rattle.playback.specs.Report.{behind_bytes, cell_at, cell_bytes, counts_bytes, members_bytes, nodes_bytes, refusal_bytes, report_bytes};
 
-use commits::{Epoch, Refusal};
-use ratchet_tree::{Leaf, MemberId, Node, Part, RatchetTree};
+use commits::{Counts, Epoch, Refusal};
+use ratchet_tree::{Leaf, MemberId, Node, Parent, Part, RatchetTree};
 use scripts::numbers::write_number;
 use std::alloc::AllocError;
 
@@ -22,20 +22,12 @@ fn write_behind(out: &mut Vec<u8>, byte: u8, number: u64) -> Result<(), AllocErr
     write_number(out, number)
 }
 
-// Appends a number and a byte behind it.
-fn write_before(out: &mut Vec<u8>, number: u64, byte: u8) -> Result<(), AllocError>
-    ensures { Appends out.old.items (decimal number ++ byte ∷ []) out.new.items result }
-{
-    write_number(out, number)?;
-    out.push(byte)?;
-    Ok(())
-}
-
 // Appends the refusal's number, alone on its line.
 pub(crate) fn write_refusal(out: &mut Vec<u8>, refusal: Refusal) -> Result<(), AllocError>
     ensures bytes { Appends out.old.items (refusal_bytes (number_of refusal)) out.new.items result }
 {
-    write_before(out, u64::from(refusal.number()), b'\n')
+    write_number(out, u64::from(refusal.number()))?;
+    out.extend_from_slice(b"\n")
 }
 
 // Appends members' numbers, each behind a comma.
@@ -61,40 +53,19 @@ fn write_members(out: &mut Vec<u8>, members: &[MemberId]) -> Result<(), AllocErr
     }
 }
 
-// Appends a space and the node, taken as a leaf.
-fn write_leaf(out: &mut Vec<u8>, node: &Node) -> Result<(), AllocError>
-    ensures { Appends out.old.items (32 ∷ cell_bytes (leaf_cell (leaf_of node.now))) out.new.items result }
-{
-    match node {
-        Node::Leaf(leaf) => match leaf {
-            Leaf::Occupied { member, .. } => write_behind(out, b' ', u64::from(member.0)),
-            Leaf::Blank => out.extend_from_slice(b" ."),
-        },
-        Node::Parent(_) => out.extend_from_slice(b" ."),
-    }
-}
-
-// Appends a space and the node, taken as a parent.
-fn write_parent(out: &mut Vec<u8>, node: &Node) -> Result<(), AllocError>
-    ensures { Appends out.old.items (32 ∷ cell_bytes (parent_cell (parent_of node.now))) out.new.items result }
-{
-    match node.node_key() {
-        Some(keyed) => {
-            out.extend_from_slice(b" *")?;
-            write_members(out, keyed.unmerged)
-        }
-        None => out.extend_from_slice(b" ."),
-    }
-}
-
-// Appends a space and the node at this index: leaves stand at the even ones.
+// Appends a space and the node at this index: a leaf at an even one, a parent at an odd one. Any other is blank.
 fn write_node(out: &mut Vec<u8>, index: usize, node: &Node) -> Result<(), AllocError>
     ensures { Appends out.old.items (32 ∷ cell_bytes (cell_at index node.now)) out.new.items result }
 {
-    if index % 2 == 0 {
-        write_leaf(out, node)
-    } else {
-        write_parent(out, node)
+    match (index % 2, node) {
+        (0, Node::Leaf(Leaf::Occupied { member, .. })) => {
+            write_behind(out, b' ', u64::from(member.0))
+        }
+        (1, Node::Parent(Parent::Keyed { unmerged, .. })) => {
+            out.extend_from_slice(b" *")?;
+            write_members(out, unmerged)
+        }
+        _ => out.extend_from_slice(b" ."),
     }
 }
 
@@ -109,31 +80,24 @@ fn write_nodes(out: &mut Vec<u8>, part: Part<'_>) -> Result<(), AllocError>
 }
 
 // Appends the numbers that a commit's line begins with.
-fn write_counts(
-    out: &mut Vec<u8>,
-    epoch: Epoch,
-    boxes: usize,
-    node_keys: usize,
-) -> Result<(), AllocError>
-    ensures { Appends out.old.items (counts_bytes epoch.0 boxes node_keys) out.new.items result }
+fn write_counts(out: &mut Vec<u8>, epoch: Epoch, counts: Counts) -> Result<(), AllocError>
+    ensures { Appends out.old.items (counts_bytes epoch.0 counts.boxes counts.node_keys) out.new.items result }
 {
     write_number(out, u64::from(epoch.0))?;
-    write_behind(out, b' ', boxes as u64)?;
-    write_behind(out, b' ', node_keys as u64)
+    write_behind(out, b' ', counts.boxes as u64)?;
+    write_behind(out, b' ', counts.node_keys as u64)
 }
 
 // Appends a commit's line: the epoch, how many boxes and node keys the message has, and the tree after it.
 pub(crate) fn write_report(
     out: &mut Vec<u8>,
     epoch: Epoch,
-    boxes: usize,
-    node_keys: usize,
+    counts: Counts,
     tree: &RatchetTree,
 ) -> Result<(), AllocError>
-    ensures bytes { Appends out.old.items (report_bytes epoch.0 boxes node_keys (the_tree tree.now)) out.new.items result }
+    ensures bytes { Appends out.old.items (report_bytes epoch.0 counts.boxes counts.node_keys (the_tree tree.now)) out.new.items result }
 {
-    write_counts(out, epoch, boxes, node_keys)?;
+    write_counts(out, epoch, counts)?;
     write_nodes(out, tree.as_part())?;
-    out.push(b'\n')?;
-    Ok(())
+    out.extend_from_slice(b"\n")
 }

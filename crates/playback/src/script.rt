@@ -1,16 +1,15 @@
 // A script played line by line: what `station` prints.
 ghost use Rattle.std.specs.Prelude.{◌≡◌, IfOk};
 ghost use Rattle.commits.specs.Refusals.{number_of};
-ghost use Rattle.scripts.specs.Lines.{lines_of};
 ghost use Rattle.playback.specs.Play.{Printed};
 ghost use Rattle.playback.specs.Report.{refusal_bytes};
-ghost use Rattle.playback.specs.Steps.{Answered, PlayedAll};
+ghost use Rattle.playback.specs.Steps.{Answered, Begins, PlayedAll, PlayedFrom};
 
 use crate::report::{write_refusal, write_report};
-use commits::{CommitError, CommitKeys, Epoch, NOBODY, PathKeys, Refusal, apply};
-use ratchet_tree::{PublicKey, RatchetTree};
+use commits::{CommitError, CommitKeys, Counts, Epoch, NOBODY, PathKeys, Refusal, apply};
+use ratchet_tree::{MemberId, PublicKey, RatchetTree};
 use scripts::line::{read_founder, read_line};
-use scripts::lines::{next_line, too_long};
+use scripts::lines::{Lines, too_long};
 use std::alloc::{AllocError, Global};
 
 // A station has no vault: this half stands in for every key.
@@ -24,7 +23,7 @@ pub struct Station {
 
 // Plays one line, and appends what is printed for it.
 fn answer(
-    heap: Global,
+    alloc: Global,
     station: &mut Station,
     line: &[u8],
     out: &mut Vec<u8>,
@@ -41,71 +40,80 @@ fn answer(
             nodes: &[],
         },
     };
-    match apply(heap, &mut station.tree, station.epoch, commit, keys) {
+    match apply(alloc, &mut station.tree, station.epoch, commit, keys) {
         Ok(applied) => {
             station.epoch = Epoch(station.epoch.0 + 1);
-            write_report(
-                out,
-                station.epoch,
-                applied.boxes,
-                applied.node_keys,
-                &station.tree,
-            )
+            let counts = Counts {
+                node_keys: applied.node_keys,
+                boxes: applied.boxes,
+            };
+            write_report(out, station.epoch, counts, &station.tree)
         }
-        Err(error) => match error {
-            CommitError::Refused(refusal) => write_refusal(out, refusal),
-            CommitError::OutOfMemory => Err(AllocError),
-        },
+        Err(CommitError::Refused(refusal)) => write_refusal(out, refusal),
+        Err(CommitError::OutOfMemory) => Err(AllocError),
     }
 }
 
-// Plays every line of the input, and appends what is printed for them.
+// Plays the lines, and appends what is printed for them.
 fn play_lines(
-    heap: Global,
+    alloc: Global,
     station: &mut Station,
-    input: &[u8],
+    lines: Lines<'_>,
     out: &mut Vec<u8>,
 ) -> Result<(), AllocError>
-    ensures { PlayedAll station.old (lines_of input.now) out.old.items out.new.items result }
+    ensures { PlayedAll station.old lines.entry out.old.items out.new.items result }
 {
-    let mut rest = input;
-    while let Some((line, behind)) = next_line(rest) {
-        answer(heap, station, line, out)?;
-        rest = behind;
+    for line in lines {
+        answer(alloc, station, line, out)?;
     }
     Ok(())
 }
 
-fn refused(heap: Global, refusal: Refusal) -> Result<Vec<u8>, AllocError>
+// The founder that an input names, and the lines behind; or why there is nothing to play.
+fn begin(input: &[u8]) -> Result<(MemberId, Lines<'_>), Refusal>
+    ensures { Begins input.now result }
+{
+    if too_long(input) {
+        return Err(Refusal::Malformed);
+    }
+    let mut lines = Lines::new(input);
+    let first = lines.next().ok_or(Refusal::Malformed)?;
+    let founder = read_founder(first).ok_or(Refusal::Malformed)?;
+    if founder == MemberId(NOBODY) {
+        return Err(Refusal::BadTree);
+    }
+    Ok((founder, lines))
+}
+
+// What is printed for a founder and the lines behind.
+fn played(alloc: Global, founder: MemberId, lines: Lines<'_>) -> Result<Vec<u8>, AllocError>
+    ensures { IfOk result (λ v. PlayedFrom founder lines.entry v.items) }
+{
+    let tree = RatchetTree::founded(alloc, founder, STAND_IN)?;
+    let mut station = Station {
+        tree,
+        epoch: Epoch(0),
+    };
+    let mut out = Vec::new(alloc);
+    play_lines(alloc, &mut station, lines, &mut out)?;
+    Ok(out)
+}
+
+// The line of a refusal alone.
+fn refused(alloc: Global, refusal: Refusal) -> Result<Vec<u8>, AllocError>
     ensures { IfOk result (λ v. v.items ≡ refusal_bytes (number_of refusal)) }
 {
-    let mut out = Vec::new(heap);
+    let mut out = Vec::new(alloc);
     write_refusal(&mut out, refusal)?;
     Ok(out)
 }
 
 // What is printed for an input, whatever its bytes.
-pub fn play(heap: Global, input: &[u8]) -> Result<Vec<u8>, AllocError>
+pub fn play(alloc: Global, input: &[u8]) -> Result<Vec<u8>, AllocError>
     ensures bytes { IfOk result (λ v. Printed input.now v.items) }
 {
-    if too_long(input) {
-        return refused(heap, Refusal::Malformed);
+    match begin(input) {
+        Ok((founder, lines)) => played(alloc, founder, lines),
+        Err(refusal) => refused(alloc, refusal),
     }
-    let Some((first, rest)) = next_line(input) else {
-        return refused(heap, Refusal::Malformed);
-    };
-    let Some(founder) = read_founder(first) else {
-        return refused(heap, Refusal::Malformed);
-    };
-    if founder.0 == NOBODY {
-        return refused(heap, Refusal::BadTree);
-    }
-    let tree = RatchetTree::founded(heap, founder, STAND_IN)?;
-    let mut station = Station {
-        tree,
-        epoch: Epoch(0),
-    };
-    let mut out = Vec::new(heap);
-    play_lines(heap, &mut station, rest, &mut out)?;
-    Ok(out)
 }

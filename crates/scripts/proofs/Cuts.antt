@@ -1,8 +1,8 @@
 -- Cutting bytes: at the first of a byte, and at newlines.
-use Rattle.std.proofs.Common.{◌≡◌, ℕ, ◌+◌, ◌-◌, ◌<◌, ◌≤◌, eqb, List, [], ◌∷◌, ◌++◌, length, get_or, take, drop, All, sym, refl, ap, ◌∙◌, subst, arith}
+use Rattle.std.proofs.Common.{◌≡◌, ℕ, ◌<◌, ◌≤◌, eqb, List, [], ◌∷◌, ◌++◌, length, All, refl, ap, ◌∙◌, arith}
 use Rattle.std.proofs.lemmas.Bool.{ne_eqb, cond-false, cond_both}
-use Rattle.std.proofs.lemmas.List.Elements.{All-head, All-tail, All-more}
-use Rattle.std.proofs.lemmas.List.{take_all, take_rest, take-append-drop, drop_more, nil_from_length, append_assoc}
+use Rattle.std.proofs.lemmas.List.Elements.{All-head, All-tail}
+use Rattle.std.proofs.lemmas.List.{nil_from_length, append_assoc}
 use Rattle.scripts.specs.Lines.{Lacks, before, lines_of, ended}
 
 -- a text without a byte, from its first on
@@ -29,24 +29,6 @@ lines_of-last (b ∷ (c ∷ cs)) some lacks = lines_of-byte b (c ∷ cs) (lacks-
 
 pub lines_of-empty : (input : List ℕ) → length input ≡ 0 → lines_of input ≡ []
 lines_of-empty input none = ap lines_of (nil_from_length input none)
-
-module _ (text : List ℕ) (byte i : ℕ) where
-  -- one more byte that is another
-  pub lacks-more : i < length text → Lacks byte (take i text) → (get_or text i 0 ≡ byte → ⊥) → Lacks byte (take (i + 1) text)
-  lacks-more lt lacks other = All-more (λ c. c ≡ byte → ⊥) text i 0 lt lacks other
-
-  pub lacks-all : length text ≤ i → Lacks byte (take i text) → Lacks byte text
-  lacks-all end lacks = subst (Lacks byte) (take_all i text end) lacks
-
-  -- the text is its two parts and the byte between them
-  pub parts_join : i < length text → get_or text i 0 ≡ byte → text ≡ take (i - 0) text ++ byte ∷ take (length text - (i + 1)) (drop (i + 1) text)
-  parts_join lt e =
-      let front : i - 0 ≡ i = omega arith in
-      let back : drop i text ≡ byte ∷ take (length text - (i + 1)) (drop (i + 1) text) = drop_more text i 0 lt ∙ ap (λ b. b ∷ drop (i + 1) text) e ∙ ap (λ t. byte ∷ t) (sym (take_rest text (i + 1))) in
-      sym (ap (λ t. take (i - 0) text ++ t) (sym back) ∙ ap (λ n. take n text ++ drop i text) front ∙ take-append-drop i text)
-
-  pub front-lacks : Lacks byte (take i text) → Lacks byte (take (i - 0) text)
-  front-lacks lacks = let front : i ≡ i - 0 = omega arith in subst (λ n. Lacks byte (take n text)) front lacks
 
 -- every line but the last ends with a newline, so that there are no more lines than bytes
 pub length-lines_of-le : (input : List ℕ) → length (lines_of input) ≤ length input

@@ -1,5 +1,4 @@
 pub mod Cuts
 pub mod Decimals
 pub mod Distinct
-pub mod Outputs
 pub mod Words

@@ -1,5 +1,5 @@
 -- The words of a line: where it is cut, and which lines there are.
-use Rattle.std.proofs.Common.{◌≡◌, ℕ, ◌<◌, Bool, true, not, ◌&&◌, eqb, List, [], ◌∷◌, ◌++◌, length, codes, sym, refl, ap, ◌∙◌, subst, arith}
+use Rattle.std.proofs.Common.{◌≡◌, ℕ, ◌<◌, Bool, true, not, ◌&&◌, eqb, List, [], ◌∷◌, ◌++◌, codes, sym, refl, ◌∙◌, subst, arith}
 use Rattle.std.proofs.lemmas.List.Elements.{All-nil, All-cons, All-weaker}
 use Rattle.std.proofs.lemmas.Bool.{and_parts, not-true, eqb-false}
 use Rattle.commits.specs.declared.change.Change.{Change}
@@ -8,8 +8,11 @@ use Rattle.commits.specs.declared.change.Commit.{Commit}
 use Rattle.scripts.proofs.Cuts.{lacks-head, lacks-tail}
 use Rattle.scripts.proofs.Decimals.{all-decimal}
 use Rattle.scripts.specs.Decimal.{decimal, Digit}
-use Rattle.scripts.specs.Line.{spaced, words_of, line_bytes, InRange, ChangeInRange}
+use Rattle.scripts.specs.Line.{spaced, words_of, line_bytes, InRange}
 use Rattle.scripts.specs.Lines.{Lacks}
+use Rattle.scripts.specs.Verbs.{word_of}
+use Rattle.scripts.specs.declared.line.Verb.{Verb}
+use Rattle.scripts.specs.declared.line.Verb.TheVariants as verbs
 
 -- a byte that stands in a text is not lacked there
 pub lacks-none : (b : ℕ) (front back : List ℕ) → Lacks b (front ++ b ∷ back) → ⊥
@@ -90,30 +93,10 @@ module _ (line word rest : List ℕ) (cut : line ≡ word ++ 32 ∷ rest) (lacks
   line-parts : (m : ℕ) (change : Change) → line ≡ spaced (words_of m change) → (word ≡ verb change) × (rest ≡ behind m change)
   line-parts m change e = same-cut 32 word rest (verb change) (behind m change) lacks (verb-lacks change) (sym cut ∙ e ∙ line-cut m change)
 
-  renew-at : word ≡ codes "renew" → ((n : ℕ) → n < 65536 → rest ≡ decimal n → ⊥) → (m : ℕ) (change : Change) → m < 65536 → word ≡ verb change → rest ≡ behind m change → ⊥
-  renew-at is none m Renew small w r = none m small r
-  renew-at is none m (Remove other) small w r = omega (arith, ap length (sym is ∙ w))
-  renew-at is none m (Add other) small w r = omega (arith, ap length (sym is ∙ w))
+  verb-at : ((v : Verb) → word ≡ word_of v → ⊥) → (change : Change) → word ≡ verb change → ⊥
+  verb-at none Renew w = none verbs.Renew w
+  verb-at none (Remove n) w = none verbs.Remove w
+  verb-at none (Add n) w = none verbs.Add w
 
-  pub renew-refused : word ≡ codes "renew" → ((n : ℕ) → n < 65536 → rest ≡ decimal n → ⊥) → (c : Commit) → InRange c → line ≡ line_bytes c → ⊥
-  renew-refused is none c fits e = let p = line-parts c.committer.0 c.change e in renew-at is none c.committer.0 c.change fits.committer p.0 p.1
-
-  pair-at : (word ≡ codes "renew" → ⊥) → ((m n : ℕ) → m < 65536 → n < 65536 → rest ≡ spaced (decimal m ∷ decimal n ∷ []) → ⊥) → (m : ℕ) (change : Change) → m < 65536 → ChangeInRange change → word ≡ verb change → rest ≡ behind m change → ⊥
-  pair-at other none m Renew small fits w r = other w
-  pair-at other none m (Remove n) small fits w r = none m n.0 small fits r
-  pair-at other none m (Add n) small fits w r = none m n.0 small fits r
-
-  pub pair-refused : (word ≡ codes "renew" → ⊥) → ((m n : ℕ) → m < 65536 → n < 65536 → rest ≡ spaced (decimal m ∷ decimal n ∷ []) → ⊥) → (c : Commit) → InRange c → line ≡ line_bytes c → ⊥
-  pair-refused other none c fits e = let p = line-parts c.committer.0 c.change e in pair-at other none c.committer.0 c.change fits.committer fits.other p.0 p.1
-
-  verb-at : (word ≡ codes "renew" → ⊥) → (word ≡ codes "remove" → ⊥) → (word ≡ codes "add" → ⊥) → (change : Change) → word ≡ verb change → ⊥
-  verb-at a b d Renew w = a w
-  verb-at a b d (Remove n) w = b w
-  verb-at a b d (Add n) w = d w
-
-  pub verb-refused : (word ≡ codes "renew" → ⊥) → (word ≡ codes "remove" → ⊥) → (word ≡ codes "add" → ⊥) → (c : Commit) → InRange c → line ≡ line_bytes c → ⊥
-  verb-refused a b d c fits e = verb-at a b d c.change (line-parts c.committer.0 c.change e).0
-
-  -- the line, once its word and what stands behind it are read
-  pub line-is : (w r : List ℕ) → word ≡ w → rest ≡ r → line ≡ w ++ 32 ∷ r
-  line-is w r ew er = cut ∙ ap (λ t. t ++ 32 ∷ rest) ew ∙ ap (λ t. w ++ 32 ∷ t) er
+  pub verb-refused : ((v : Verb) → word ≡ word_of v → ⊥) → (c : Commit) → InRange c → line ≡ line_bytes c → ⊥
+  verb-refused none c fits e = verb-at none c.change (line-parts c.committer.0 c.change e).0

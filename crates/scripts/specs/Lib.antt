@@ -3,3 +3,4 @@ pub mod Laws
 pub mod Line
 pub mod Lines
 pub mod Output
+pub mod Verbs

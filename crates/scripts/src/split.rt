@@ -6,10 +6,6 @@ ghost use Rattle.std.specs.Prelude.{◌≡◌, ◌∷◌, ◌++◌, MatchOption}
 pub fn split_once(text: &[u8], byte: u8) -> Option<(&[u8], &[u8])>
     ensures { MatchOption result (Lacks byte text.now) (λ p. (text.now ≡ p.0.now ++ byte ∷ p.1.now) × Lacks byte p.0.now) }
 {
-    for (i, b) in text.iter().enumerate() {
-        if *b == byte {
-            return Some((&text[0..i], &text[i + 1..]));
-        }
-    }
-    None
+    let at = text.iter().position(|b| *b == byte)?;
+    Some((&text[..at], &text[at + 1..]))
 }

@@ -19,14 +19,14 @@ returns-in-Ok c =
     c.in-Ok.ensures.tree.allowed c.in-Ok.ensures.tree.tree (add-one c.args.station.now.epoch.0) (c.write_report.ensures.bytes.items k)
     (report-as _ _ _ _ _ _ _ _ (add-one c.args.station.now.epoch.0) c.in-Ok.ensures.tree.boxes c.in-Ok.ensures.tree.keys c.in-Ok.ensures.tree.tree)
 
-pub returns-in-Refused : goal.returns-in-Refused
-returns-in-Refused c =
+pub returns-in-Err-Refused : goal.returns-in-Err-Refused
+returns-in-Err-Refused c =
     λ k. same-state (state_of c.args.station.now) (state_of (record { tree = c.apply.new.tree; epoch = c.args.station.now.epoch })) c.args.line.now _ _
-    (ap (λ t. state_of (record { tree = t; epoch = c.args.station.now.epoch })) (sym c.in-Err.ensures.tree.0))
+    (ap (λ t. state_of (record { tree = t; epoch = c.args.station.now.epoch })) (sym c.in-Err-Refused.ensures.tree.0))
     (record {
-      bytes = refusal_bytes (number_of c.in-Refused.refusal);
-      appended = c.write_refusal-in-Refused.ensures.bytes.items k;
+      bytes = refusal_bytes (number_of c.in-Err-Refused.refusal);
+      appended = c.write_refusal-in-Err-Refused.ensures.bytes.items k;
       answers =
-          refused c.in-Some.commit c.in-Some.ensures.1 c.in-Some.ensures.0 (number_of c.in-Refused.refusal)
-          (subst (λ (x : CommitError). Stopped c.args.station.now.epoch.0 (commit_of c.in-Some.commit) (the_tree c.args.station.now.tree) x) c.in-Refused.is c.in-Err.ensures.tree.1);
+          refused c.in-Some.commit c.in-Some.ensures.1 c.in-Some.ensures.0 (number_of c.in-Err-Refused.refusal)
+          (subst (λ (x : CommitError). Stopped c.args.station.now.epoch.0 (commit_of c.in-Some.commit) (the_tree c.args.station.now.tree) x) c.in-Err-Refused.field-0-is c.in-Err-Refused.ensures.tree.1);
     })
