@@ -9,4 +9,5 @@ pub mod Taking
 pub mod Turning
 pub mod Assigning
 pub mod Permitting
+pub mod Seeing
 pub mod Chips

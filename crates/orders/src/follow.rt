@@ -38,6 +38,8 @@ fn open(
 }
 
 // Follows the committer's path to the top of a part, from where it meets the member's way; answers its level there.
+// `make` goes up the same path from the leaf. One walk for both would take closures for where it starts and for each
+// parent, and be longer than the two.
 pub fn follow(
     part: Part,
     member: MemberId,
