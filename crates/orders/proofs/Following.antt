@@ -1,8 +1,8 @@
 -- A path that is followed, one parent more.
 -- Assumes nothing.
-use Rattle.std.proofs.Common.{◌≡◌, ℕ, suc, ◌+◌, true, false, cond, List, [], ◌∷◌, ◌++◌, map, sym, ap, ◌∙◌, ap₂, arith}
+use Rattle.std.proofs.Common.{◌≡◌, ℕ, suc, ◌+◌, Bool, true, false, cond, List, [], ◌∷◌, ◌++◌, map, sym, ap, ◌∙◌, ap₂, arith}
 use Rattle.std.proofs.lemmas.Bool.{cond-true, cond-false}
-use Rattle.theory.specs.Tree.{Tree, leaf, node, Leaf, Parent, height, resolution, seated}
+use Rattle.theory.specs.Tree.{Tree, leaf, Leaf, height, resolution, seated}
 use Rattle.vault_theory.specs.Order.{Order, unseal, slot_of_key, slot_of_path}
 use Rattle.vault_theory.specs.Numbers.{height_of_key, number_of_key, levels, posted}
 use Rattle.vault_theory.specs.Orders.{climbed, followed, held_forgotten, opened}
@@ -15,7 +15,13 @@ use Rattle.orders.specs.Given.{Risen}
 use Rattle.orders.specs.Order.{order_of}
 use Rattle.orders.specs.declared.order.Order as order
 use Rattle.orders.proofs.Capping.{capped-then, plain-passed}
-use Rattle.orders.proofs.Halves.{either_side}
+use Rattle.orders.proofs.Halves.{either_side, parent-height}
+use Rattle.orders.specs.Sides.{SidesOf}
+use Rattle.orders.specs.declared.sides.Sides.{Sides}
+use Rattle.ratchet_tree.specs.Nodes.{parent_of}
+use Rattle.ratchet_tree.specs.Parts.{Halves, part_tree}
+use Rattle.ratchet_tree.specs.declared.node.Node.{Node}
+use Rattle.ratchet_tree.specs.declared.part.Part.{Part}
 
 -- what the committer's path has, from the counts of the code
 pub counts-are : (c : ℕ) (t : Tree PublicKey) (n : Counts) → CountsOf c t n → (n.node_keys ≡ levels c t) × (n.boxes ≡ capped (posted c t))
@@ -47,26 +53,32 @@ pub at_leaf : {K : Type 0} (w c : ℕ) (t : Tree K) (x : Leaf K) → t ≡ leaf 
 unfolding levels followed
 at_leaf w c t x e = (ap (levels c) (sym e), ap (λ u. map cap_order (followed w c u)) (sym e))
 
-module _ {K : Type 0} (w c h : ℕ) (t : Tree K) (p : Parent K) (l r own other : Tree K)
-    (e : t ≡ node p l r) (o : own ≡ cond (seated c l) l r) (q : other ≡ cond (seated c l) r l) (high : h ≡ suc (height l)) where
-  -- what is given at the parent
-  abbrev here : List (Order K)
-  here = held_forgotten w p h ++ climbed (levels c own) h (resolution other)
+-- what was done below, of two ways
+module _ {to : ℕ} {a b b' : List order.Order} {i i' : ℕ} (q : Bool) (x y : List (Order PublicKey)) (same : b ≡ b') (level : i ≡ i') where
+  pub chosen-first : q ≡ true → Risen to (map cap_order x) a b' i' → Risen to (map cap_order (cond q x y)) a b i
+  chosen-first e h = record { level = level ∙ h.level; items = ap (map order_of) same ∙ h.items ∙ ap (λ l. map order_of a ++ map cap_order l) (sym (cond-true q x y e)) }
 
-  above : followed w c t ≡ cond (seated w own) (followed w c own) (opened w c own other ∷ []) ++ here
+  pub chosen-second : q ≡ false → Risen to (map cap_order y) a b' i' → Risen to (map cap_order (cond q x y)) a b i
+  chosen-second e h = record { level = level ∙ h.level; items = ap (map order_of) same ∙ h.items ∙ ap (λ l. map order_of a ++ map cap_order l) (sym (cond-false q x y e)) }
+
+module _ (w c k : ℕ) (p l r : Part) (n : Node) (s : Sides) (h : Halves p l n r) (d : SidesOf c l r s) (high : k ≡ p.height) where
+  -- what is given at the parent
+  abbrev here : List (Order PublicKey)
+  here = held_forgotten w (parent_of n) k ++ climbed (levels c (part_tree s.own)) k (resolution (part_tree s.other))
+
+  -- what is given below it
+  abbrev below : Bool → List (Order PublicKey)
+  below b = cond b (followed w c (part_tree s.own)) (opened w c (part_tree s.own) (part_tree s.other) ∷ [])
+
+  above : followed w c (part_tree p) ≡ below (seated w (part_tree s.own)) ++ here
   unfolding followed
   above =
-      let f : Tree K → Tree K → List (Order K) =
-      λ x y. cond (seated w x) (followed w c x) (opened w c x y ∷ []) ++ (held_forgotten w p (suc (height l)) ++ climbed (levels c x) (suc (height l)) (resolution y)) in
-      ap (followed w c) e ∙ either_side f (seated c l) l r ∙ ap₂ f (sym o) (sym q)
-      ∙ ap (λ n. cond (seated w own) (followed w c own) (opened w c own other ∷ []) ++ (held_forgotten w p n ++ climbed (levels c own) n (resolution other))) (sym high)
+      let f : Tree PublicKey → Tree PublicKey → List (Order PublicKey) =
+      λ x y. cond (seated w x) (followed w c x) (opened w c x y ∷ []) ++ (held_forgotten w (parent_of n) (suc (height (part_tree l))) ++ climbed (levels c x) (suc (height (part_tree l))) (resolution y)) in
+      ap (followed w c) h.tree ∙ either_side f (seated c (part_tree l)) (part_tree l) (part_tree r) ∙ ap₂ f (sym d.own) (sym d.other)
+      ∙ ap (λ i. below (seated w (part_tree s.own)) ++ (held_forgotten w (parent_of n) i ++ climbed (levels c (part_tree s.own)) i (resolution (part_tree s.other)))) (sym (high ∙ parent-height p l h.left))
 
-  pub followed-inside : seated w own ≡ true → map cap_order (followed w c own) ++ here ≡ map cap_order (followed w c t)
-  followed-inside s =
-      sym (ap (map cap_order) (above ∙ ap (λ x. x ++ here) (cond-true (seated w own) (followed w c own) (opened w c own other ∷ []) s))
-      ∙ capped-then (followed w c own) here (plain-passed w p (levels c own) h (resolution other)))
-
-  pub followed-opened : seated w own ≡ false → map cap_order (opened w c own other ∷ []) ++ here ≡ map cap_order (followed w c t)
-  followed-opened s =
-      sym (ap (map cap_order) (above ∙ ap (λ x. x ++ here) (cond-false (seated w own) (followed w c own) (opened w c own other ∷ []) s))
-      ∙ capped-then (opened w c own other ∷ []) here (plain-passed w p (levels c own) h (resolution other)))
+  pub followed-above : (b : Bool) → b ≡ seated w (part_tree s.own) → map cap_order (below b) ++ here ≡ map cap_order (followed w c (part_tree p))
+  followed-above b e =
+      sym (ap (map cap_order) (above ∙ ap (λ x. below x ++ here) (sym e))
+      ∙ capped-then (below b) here (plain-passed w (parent_of n) (levels c (part_tree s.own)) k (resolution (part_tree s.other))))

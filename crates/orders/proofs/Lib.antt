@@ -5,9 +5,9 @@ pub mod Numbering
 pub mod Capping
 pub mod Following
 pub mod Making
-pub mod Dropping
-pub mod Leaving
+pub mod Taking
 pub mod Turning
 pub mod Assigning
 pub mod Permitting
+pub mod Seeing
 pub mod Chips

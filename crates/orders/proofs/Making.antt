@@ -1,17 +1,24 @@
 -- A path that is made, one parent more.
 -- Assumes nothing.
-use Rattle.std.proofs.Common.{◌≡◌, ℕ, suc, ◌+◌, ◌<◌, cond, List, [], ◌∷◌, ◌++◌, map, length, get_or, take, sym, refl, ap, ◌∙◌, ap₂, append_assoc, add-one}
+use Rattle.std.proofs.Common.{◌≡◌, ℕ, suc, ◌+◌, ◌<◌, List, Result, [], ◌∷◌, ◌++◌, map, length, get_or, take, sym, refl, ap, ◌∙◌, ap₂, append_assoc}
 use Rattle.std.proofs.lemmas.List.{map-append, take_more}
 use Rattle.theory.specs.Path.{level_after}
-use Rattle.theory.specs.Tree.{Tree, leaf, node, Leaf, Parent, height, resolution, seated}
+use Rattle.theory.specs.Tree.{Tree, leaf, Leaf, height, resolution, seated}
 use Rattle.vault_theory.specs.Order as theory
 use Rattle.vault_theory.specs.Numbers.{levels}
-use Rattle.vault_theory.specs.Orders.{held_forgotten, made, sealed_up}
+use Rattle.vault_theory.specs.Orders.{held_forgotten, made, risen, sealed_up}
 use Rattle.ratchet_tree.specs.declared.member.PublicKey.{PublicKey}
-use Rattle.orders.specs.Given.{Risen}
+use Rattle.orders.specs.Given.{GivesTo}
+use Rattle.orders.specs.Sides.{SidesOf}
 use Rattle.orders.specs.Order.{order_of}
 use Rattle.orders.specs.declared.order.Order.{Order}
-use Rattle.orders.proofs.Halves.{either_side}
+use Rattle.orders.proofs.Giving.{gives_as, gives-behind}
+use Rattle.orders.proofs.Halves.{either_side, parent-height}
+use Rattle.orders.specs.declared.sides.Sides.{Sides}
+use Rattle.ratchet_tree.specs.Nodes.{parent_of}
+use Rattle.ratchet_tree.specs.Parts.{Halves, part_tree}
+use Rattle.ratchet_tree.specs.declared.node.Node.{Node}
+use Rattle.ratchet_tree.specs.declared.part.Part.{Part}
 
 -- one box more
 pub sealed-more : (before : List (theory.Order PublicKey)) (out out' : List Order) (keys : List PublicKey) (x : Order) (i s : ℕ) (d : PublicKey) → out' ≡ out ++ x ∷ [] →
@@ -22,48 +29,27 @@ sealed-more before out out' keys x i s d e m f h =
     ∙ append_assoc before (map (theory.seal s) (take i keys)) (theory.seal s (get_or keys i d) ∷ [])
     ∙ ap (λ l. before ++ l) (sym (map-append (theory.seal s) (take i keys) (get_or keys i d ∷ [])) ∙ ap (map (theory.seal s)) (sym (take_more keys i d h)))
 
--- the node key of a parent, after its boxes
-sealed-here : {K : Type 0} (i h : ℕ) (ks : List K) → (length ks ≡ 0 → ⊥) →
-    map (theory.seal (theory.slot_of_path i)) ks
-    ++ (theory.derive theory.lock (theory.slot_of_path i) (theory.slot_of_key h) ∷ theory.publish (theory.slot_of_key h)
-    ∷ theory.derive theory.up (theory.slot_of_path i) (theory.slot_of_path (suc i)) ∷ theory.forget (theory.slot_of_path i) ∷ [])
-    ≡ sealed_up i h ks
-sealed-here i h [] n = absurd (n refl)
-sealed-here i h (k ∷ ks) n = refl
-
-level-here : {K : Type 0} (i : ℕ) (ks : List K) → (length ks ≡ 0 → ⊥) → i + 1 ≡ level_after i ks
-level-here i [] n = absurd (n refl)
-level-here i (k ∷ ks) n = add-one i
-
-pub sealed-above : (i h path next key : ℕ) (keys other : List PublicKey) (a b c : List Order) → keys ≡ other → (length keys ≡ 0 → ⊥) →
-    path ≡ theory.slot_of_path i → next ≡ theory.slot_of_path (i + 1) → key ≡ theory.slot_of_key h →
-    map order_of b ≡ map order_of a ++ map (theory.seal path) keys →
-    map order_of c ≡ map order_of b ++ (theory.derive theory.lock path key ∷ theory.publish key ∷ theory.derive theory.up path next ∷ theory.forget path ∷ []) →
-    Risen (level_after i other) (sealed_up i h other) a c (i + 1)
-sealed-above i h path next key keys other a b c is some p q k boxes after =
-    let up : next ≡ theory.slot_of_path (suc i) = q ∙ ap theory.slot_of_path (add-one i) in
-    let last : ℕ → ℕ → ℕ → List (theory.Order PublicKey) =
-    λ x y z. theory.derive theory.lock x z ∷ theory.publish z ∷ theory.derive theory.up x y ∷ theory.forget x ∷ [] in
-    record {
-      level = level-here i keys some ∙ ap (level_after i) is;
-      items =
-          after ∙ ap (λ l. l ++ last path next key) boxes ∙ append_assoc (map order_of a) (map (theory.seal path) keys) (last path next key)
-          ∙ ap (λ l. map order_of a ++ l)
-          (ap (λ x. map (theory.seal x) keys ++ last x next key) p
-          ∙ ap₂ (λ y z. map (theory.seal (theory.slot_of_path i)) keys ++ last (theory.slot_of_path i) y z) up k
-          ∙ sealed-here i h keys some ∙ ap (sealed_up i h) is);
-    }
+-- the node key of a parent, after its boxes, where there are any
+pub sealed-above : (i h path key : ℕ) (keys other : List PublicKey) (a b c : List Order) {E : Type 0} (r : Result ℕ E) → keys ≡ other → (length keys ≡ 0 → ⊥) →
+    path ≡ theory.slot_of_path i → key ≡ theory.slot_of_key h →
+    map order_of b ≡ map order_of a ++ map (theory.seal path) keys → GivesTo (suc i) (risen i h (theory.publish key ∷ [])) b c r →
+    GivesTo (level_after i other) (sealed_up i h other) a c r
+sealed-above i h path key [] other a b c r is some p q boxes here = absurd (some refl)
+sealed-above i h path key (k ∷ ks) other a b c r is some p q boxes here =
+    gives_as a c (suc i) (level_after i other) _ _ r (ap (level_after i) is)
+    (ap (λ z. map (theory.seal path) (k ∷ ks) ++ risen i h (theory.publish z ∷ [])) q
+    ∙ ap (λ s. map (theory.seal s) (k ∷ ks) ++ risen i h (theory.publish (theory.slot_of_key h) ∷ [])) p ∙ ap (sealed_up i h) is)
+    (gives-behind a b c (suc i) (map (theory.seal path) (k ∷ ks)) (risen i h (theory.publish key ∷ [])) r boxes here)
 
 pub made-leaf : {K : Type 0} (c : ℕ) (t : Tree K) (x : Leaf K) → t ≡ leaf x → (0 ≡ levels c t) × ([] ≡ made c t)
 unfolding levels made
 made-leaf c t x e = (ap (levels c) (sym e), ap (made c) (sym e))
 
-pub made-above : {K : Type 0} (c h : ℕ) (t : Tree K) (p : Parent K) (l r own other : Tree K) →
-    t ≡ node p l r → own ≡ cond (seated c l) l r → other ≡ cond (seated c l) r l → h ≡ suc (height l) →
-    made c own ++ (held_forgotten c p h ++ sealed_up (levels c own) h (resolution other)) ≡ made c t
+pub made-above : (c k : ℕ) (p l r : Part) (n : Node) (s : Sides) → Halves p l n r → SidesOf c l r s → k ≡ p.height →
+    made c (part_tree s.own) ++ (held_forgotten c (parent_of n) k ++ sealed_up (levels c (part_tree s.own)) k (resolution (part_tree s.other))) ≡ made c (part_tree p)
 unfolding made
-made-above {K} c h t p l r own other e o q high =
-    let f : Tree K → Tree K → List (theory.Order K) =
-    λ x y. made c x ++ (held_forgotten c p (suc (height l)) ++ sealed_up (levels c x) (suc (height l)) (resolution y)) in
-    ap (λ n. made c own ++ (held_forgotten c p n ++ sealed_up (levels c own) n (resolution other))) high
-    ∙ ap₂ f o q ∙ sym (either_side f (seated c l) l r) ∙ ap (made c) (sym e)
+made-above c k p l r n s h d high =
+    let f : Tree PublicKey → Tree PublicKey → List (theory.Order PublicKey) =
+    λ x y. made c x ++ (held_forgotten c (parent_of n) (suc (height (part_tree l))) ++ sealed_up (levels c x) (suc (height (part_tree l))) (resolution y)) in
+    ap (λ i. made c (part_tree s.own) ++ (held_forgotten c (parent_of n) i ++ sealed_up (levels c (part_tree s.own)) i (resolution (part_tree s.other)))) (high ∙ parent-height p l h.left)
+    ∙ ap₂ f d.own d.other ∙ sym (either_side f (seated c (part_tree l)) (part_tree l) (part_tree r)) ∙ ap (made c) (sym h.tree)

@@ -1,7 +1,9 @@
 -- Which key of a resolution reaches a member: looked for among the unmerged, and counted.
 -- Assumes nothing.
-use Rattle.std.proofs.Common.{◌≡◌, ℕ, zero, suc, ◌+◌, ◌<◌, true, false, cond, eqb, List, [], ◌∷◌, length, get_or, sym, ap, ◌∙◌, add-one, arith}
+use Rattle.std.proofs.Common.{◌≡◌, ℕ, zero, suc, ◌+◌, ◌<◌, true, false, cond, eqb, List, [], ◌∷◌, Some, None, Option, length, get_or, sym, ap, ◌∙◌, add-one, arith}
 use Rattle.std.proofs.lemmas.Bool.{cond-true, cond-false, eq-eqb, ne_eqb}
+use Rattle.std.specs.List.{AllWithin, HoldsAt}
+use Rattle.std.specs.Option.{MatchOption}
 use Rattle.theory.specs.Held.{is_unmerged}
 use Rattle.theory.specs.Tree.{Tree, leaf, node, Leaf, Parent, blank_parent, keyed, seated, height, resolution}
 use Rattle.vault_theory.specs.Numbers.{before, number_of_key, height_of_key}
@@ -19,14 +21,14 @@ before_at w (m ∷ ms) (suc i) d h f e =
     cond-false (eqb m.0 w) 0 (suc (before w (numbers ms))) (ne_eqb m.0 w (f zero (omega arith)))
     ∙ ap suc (before_at w ms i d (omega arith) (λ k l. f (suc k) (omega arith)) e)
 
-pub unmerged-at : (w : ℕ) (ms : List MemberId) (i : ℕ) (d : MemberId) → i < length ms → ((k : ℕ) → k < i → (get_or ms k d).0 ≡ w → ⊥) → (get_or ms i d).0 ≡ w →
-    i + 1 ≡ cond (is_unmerged w (numbers ms)) (suc (before w (numbers ms))) 0
-unmerged-at w ms i d h f e =
-    add-one i ∙ ap suc (sym (before_at w ms i d h f e)) ∙ sym (cond-true (is_unmerged w (numbers ms)) (suc (before w (numbers ms))) 0 (among-at w ms i d h e))
-
-pub unmerged-none : (w : ℕ) (ms : List MemberId) (d : MemberId) → ((k : ℕ) → k < length ms → (get_or ms k d).0 ≡ w → ⊥) →
-    0 ≡ cond (is_unmerged w (numbers ms)) (suc (before w (numbers ms))) 0
-unmerged-none w ms d f = sym (cond-false (is_unmerged w (numbers ms)) (suc (before w (numbers ms))) 0 (among_none w ms d f))
+-- the first place at which w stands, counted behind the node key
+pub unmerged-number : (w : ℕ) (ms : List MemberId) (d : MemberId) (o : Option ℕ) (n : ℕ) →
+    MatchOption o (AllWithin (λ (m : MemberId). m.0 ≡ w → ⊥) ms 0 (length ms)) (λ i. (i < length ms) × HoldsAt (λ (m : MemberId). m.0 ≡ w) ms i × AllWithin (λ (m : MemberId). m.0 ≡ w → ⊥) ms 0 i) →
+    MatchOption o (n ≡ 0) (λ i. n ≡ i + 1) → n ≡ cond (is_unmerged w (numbers ms)) (suc (before w (numbers ms))) 0
+unmerged-number w ms d None n at is = is ∙ sym (cond-false (is_unmerged w (numbers ms)) (suc (before w (numbers ms))) 0 (among_none w ms d (λ k h. at k d (omega arith) h)))
+unmerged-number w ms d (Some i) n at is =
+    is ∙ add-one i ∙ ap suc (sym (before_at w ms i d at.0 (λ k h. at.2 k d (omega arith) h) (at.1 d)))
+    ∙ sym (cond-true (is_unmerged w (numbers ms)) (suc (before w (numbers ms))) 0 (among-at w ms i d at.0 (at.1 d)))
 
 -- by what stands at the top of a part
 module _ {K : Type 0} (w : ℕ) (t : Tree K) where

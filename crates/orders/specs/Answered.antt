@@ -1,12 +1,13 @@
 -- What a handset answers to a message: the orders to its vault.
 -- `orders_for`: the orders of the handset's member; `Orders`, `Welcomes`: those orders, or why there are none; `Commits`: the orders of a committer before there is a message;
--- `Responds`: the orders for a letter of bytes, and the handset after it.
+-- `Sees`: what the orders for a message are worked out from; `Responds`: the orders for a letter of bytes, and the handset after it.
 -- Assumes nothing.
 use Rattle.std.specs.Prelude.{◌≡◌, ℕ, List, map, None, Ok, Err, vec_items, Result, Vec}
 use Rattle.std.specs.declared.alloc.Global.{Global}
-use Rattle.theory.specs.Group.{Commit, refusal}
+use Rattle.theory.specs.Group.{Commit, readied, refusal}
 use Rattle.vault_theory.specs.Order as theory
 use Rattle.vault_theory.specs.Orders.{committing, orders_of, welcomed}
+use Rattle.ratchet_tree.specs.Parts.{part_tree}
 use Rattle.ratchet_tree.specs.Trees.{the_tree}
 use Rattle.ratchet_tree.specs.declared.member.PublicKey.{PublicKey}
 use Rattle.commits.specs.Apply.{Stopped}
@@ -20,15 +21,28 @@ use Rattle.vault_theory.specs.Capped.{cap_order}
 use Rattle.orders.specs.Order.{order_of}
 use Rattle.orders.specs.Roles.{init_in}
 use Rattle.orders.specs.declared.order.Order.{Order}
+use Rattle.orders.specs.declared.view.CommitView.{CommitView}
 
 -- the orders of the handset's member for the commit of a message
 abbrev pub orders_for : Handset → Message → List (theory.Order PublicKey)
 orders_for h m = orders_of h.member.0 (commit_asked m) (fresh_key m) (init_in m.leaf_key m.change) (the_tree h.tree)
 
+-- the commit of a message, with the handset's tree before it and with what is asked
+pub record Sees (h : Handset) (m : Message) (v : CommitView) : Type 0 where
+  pub committer : v.committer.0 ≡ (commit_asked m).committer
+  pub change : v.change ≡ m.change
+  pub before : part_tree v.before ≡ the_tree h.tree
+  pub readied : part_tree v.readied ≡ readied (commit_asked m).change (fresh_key m) (the_tree h.tree)
+
 -- a handset that takes the message gives these orders
 pub record Answers (h : Handset) (m : Message) (more : List (theory.Order PublicKey)) (v : List Order) : Type 0 where
   pub allowed : message_refusal h.member.0 h.epoch.0 (the_tree h.tree) m ≡ None
   pub orders : map order_of v ≡ map cap_order more
+
+-- those orders, or why the handset does not take the message
+abbrev pub AnswersOr : Handset → Message → List (theory.Order PublicKey) → Result (Vec Order Global) CommitError → Type 0
+AnswersOr h m more (Ok v) = Answers h m more (vec_items v)
+AnswersOr h m more (Err e) = Left h m e
 
 abbrev pub Orders : Handset → Message → Result (Vec Order Global) CommitError → Type 0
 Orders h m (Ok v) = Answers h m (orders_for h m) (vec_items v)

@@ -7,12 +7,13 @@ ghost use Rattle.ratchet_tree.specs.Parts.{part_tree};
 ghost use Rattle.vault_theory.specs.Capped.{cap_order};
 ghost use Rattle.orders.specs.Given.{GivesTo};
 
-use crate::climb::pass;
 use crate::give::give;
+use crate::height::Height;
 use crate::number::{key_height, key_number};
 use crate::order::Order;
 use crate::sides::{Sides, sides_of};
 use crate::slots::{key_slot, path_slot};
+use crate::step::PathStep;
 use commits::path_counts;
 use ratchet_tree::{MemberId, Part, Split};
 use std::alloc::AllocError;
@@ -37,6 +38,8 @@ fn open(
 }
 
 // Follows the committer's path to the top of a part, from where it meets the member's way; answers its level there.
+// `make` goes up the same path from the leaf. One walk for both would take closures for where it starts and for each
+// parent, and be longer than the two.
 pub fn follow(
     part: Part,
     member: MemberId,
@@ -50,12 +53,18 @@ pub fn follow(
         Split::Leaf(_) => Ok(0),
         Split::Parent(left, node, right) => {
             let sides = sides_of(left, right, committer);
-            if sides.own.is_seated(member) {
-                let level = follow(sides.own, member, committer, out)?;
-                return pass(node, member, sides.other, level, part.height, out);
-            }
-            let level = open(sides, member, committer, out)?;
-            pass(node, member, sides.other, level, part.height, out)
+            let level = if sides.own.is_seated(member) {
+                follow(sides.own, member, committer, out)?
+            } else {
+                open(sides, member, committer, out)?
+            };
+            let step = PathStep {
+                node,
+                height: Height::of(part),
+                other: sides.other,
+                level,
+            };
+            step.pass(member, out)
         }
     }
 }

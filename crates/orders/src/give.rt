@@ -6,7 +6,8 @@ ghost use Rattle.orders.specs.Order.{order_of};
 use crate::order::Order;
 use std::alloc::AllocError;
 
-// Appends these orders.
+// Appends these orders. Each role appends to the caller's list: a writer round it would have that one field, and only
+// hand it on.
 pub fn give(out: &mut Vec<Order>, orders: &[Order]) -> Result<(), AllocError>
     ensures { Gives (map order_of orders.now) out.old.items out.new.items result }
 {

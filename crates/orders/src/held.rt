@@ -1,12 +1,12 @@
 // The node key that a member holds of a parent.
-ghost use Rattle.std.specs.Prelude.{◌≡◌, ◌≤◌};
-ghost use Rattle.theory.specs.Limits.{max_depth};
+ghost use Rattle.std.specs.Prelude.{◌≡◌};
 ghost use Rattle.vault_theory.specs.Numbers.{is_held};
 ghost use Rattle.vault_theory.specs.Orders.{held_forgotten};
 ghost use Rattle.ratchet_tree.specs.Nodes.{parent_of};
 ghost use Rattle.orders.specs.Given.{Gives};
 
 use crate::give::give;
+use crate::height::Height;
 use crate::order::Order;
 use crate::slots::key_slot;
 use ratchet_tree::{MemberId, Node, is_among};
@@ -16,21 +16,18 @@ use std::alloc::AllocError;
 fn is_held(node: &Node, member: MemberId) -> bool
     ensures { result ≡ is_held member.0 (parent_of node.now) }
 {
-    match node.node_key() {
-        Some(keyed) => !is_among(keyed.unmerged, member),
-        None => false,
-    }
+    node.node_key()
+        .is_some_and(|keyed| !is_among(keyed.unmerged, member))
 }
 
 // Forgets the node key of a parent of this height, where the member holds it.
 pub fn forget_held(
     node: &Node,
     member: MemberId,
-    height: usize,
+    height: Height,
     out: &mut Vec<Order>,
 ) -> Result<(), AllocError>
-    requires { height ≤ max_depth }
-    ensures { Gives (held_forgotten member.0 (parent_of node.now) height) out.old.items out.new.items result }
+    ensures { Gives (held_forgotten member.0 (parent_of node.now) height.value) out.old.items out.new.items result }
 {
     if !is_held(node, member) {
         return Ok(());

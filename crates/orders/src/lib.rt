@@ -7,6 +7,7 @@ mod drop;
 mod epoch;
 mod follow;
 mod give;
+mod height;
 mod held;
 mod leave;
 mod make;
@@ -16,6 +17,8 @@ mod reply;
 mod roles;
 mod sides;
 mod slots;
+mod step;
+mod view;
 
 pub use committer::committer_orders;
 pub use order::{Order, Slot, Way};

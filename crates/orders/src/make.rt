@@ -1,6 +1,5 @@
 // The path, for the committer who lays it.
-ghost use Rattle.std.specs.Prelude.{◌≡◌, ◌≤◌, true, ◌++◌, map};
-ghost use Rattle.theory.specs.Limits.{max_depth};
+ghost use Rattle.std.specs.Prelude.{◌≡◌, true, ◌++◌, map};
 ghost use Rattle.theory.specs.Path.{level_after};
 ghost use Rattle.theory.specs.Tree.{resolution, seated};
 ghost use Rattle.vault_theory.specs.Numbers.{levels};
@@ -10,12 +9,13 @@ ghost use Rattle.ratchet_tree.specs.Nodes.{parent_of};
 ghost use Rattle.ratchet_tree.specs.Parts.{part_tree};
 ghost use Rattle.orders.specs.Given.{Gives, GivesTo};
 
-use crate::give::give;
+use crate::height::Height;
 use crate::held::forget_held;
-use crate::order::{Order, Slot, Way};
+use crate::order::{Order, Slot};
 use crate::sides::sides_of;
 use crate::slots::{key_slot, path_slot};
-use ratchet_tree::{MemberId, Node, Part, PublicKey, Split};
+use crate::step::PathStep;
+use ratchet_tree::{MemberId, Part, PublicKey, Split};
 use std::alloc::{AllocError, Global};
 
 // Seals what is in a slot to each of these keys, in their order.
@@ -31,64 +31,37 @@ fn seal_to(slot: Slot, keys: &[PublicKey], out: &mut Vec<Order>) -> Result<(), A
     Ok(())
 }
 
-// Seals the path secret to the path's other side and makes the node key of a parent of this height; answers the level
-// above. Nothing where there is nobody on the other side.
-fn seal_up(
-    heap: Global,
-    other: Part,
-    level: usize,
-    height: usize,
-    out: &mut Vec<Order>,
-) -> Result<usize, AllocError>
-    requires { (level ≤ max_depth) × (height ≤ max_depth) }
-    ensures { GivesTo (level_after level (resolution (part_tree other.entry))) (sealed_up level height (resolution (part_tree other.entry))) out.old.items out.new.items result }
-{
-    let keys = other.resolution(heap)?;
-    if keys.is_empty() {
-        return Ok(level);
+impl PathStep<'_> {
+    // Seals the path secret to the path's other side and makes the node key; answers the level above. Nothing where
+    // there is nobody on the other side.
+    fn seal_up(self, alloc: Global, out: &mut Vec<Order>) -> Result<usize, AllocError>
+        ensures { GivesTo (level_after self.entry.level (resolution (part_tree self.entry.other))) (sealed_up self.entry.level self.entry.height.value (resolution (part_tree self.entry.other))) out.old.items out.new.items result }
+    {
+        let keys = self.other.resolution(alloc)?;
+        if keys.is_empty() {
+            return Ok(self.level);
+        }
+        seal_to(path_slot(self.level), &keys, out)?;
+        self.rise(&[Order::Public(key_slot(self.height))], out)
     }
-    let path = path_slot(level);
-    seal_to(path, &keys, out)?;
-    let next = path_slot(level + 1);
-    let key = key_slot(height);
-    let orders = [
-        Order::Derive {
-            way: Way::Lock,
-            from: path,
-            into: key,
-        },
-        Order::Public(key),
-        Order::Derive {
-            way: Way::Up,
-            from: path,
-            into: next,
-        },
-        Order::Forget(path),
-    ];
-    give(out, &orders)?;
-    Ok(level + 1)
-}
 
-// The same, with the parent's old node key forgotten first.
-fn lay(
-    heap: Global,
-    node: &Node,
-    committer: MemberId,
-    other: Part,
-    level: usize,
-    height: usize,
-    out: &mut Vec<Order>,
-) -> Result<usize, AllocError>
-    requires { (level ≤ max_depth) × (height ≤ max_depth) }
-    ensures { GivesTo (level_after level (resolution (part_tree other.entry))) (held_forgotten committer.0 (parent_of node.now) height ++ sealed_up level height (resolution (part_tree other.entry))) out.old.items out.new.items result }
-{
-    forget_held(node, committer, height, out)?;
-    seal_up(heap, other, level, height, out)
+    // The same, with the parent's old node key forgotten first.
+    fn lay(
+        self,
+        alloc: Global,
+        committer: MemberId,
+        out: &mut Vec<Order>,
+    ) -> Result<usize, AllocError>
+        ensures { GivesTo (level_after self.entry.level (resolution (part_tree self.entry.other))) (held_forgotten committer.0 (parent_of self.entry.node.now) self.entry.height.value ++ sealed_up self.entry.level self.entry.height.value (resolution (part_tree self.entry.other))) out.old.items out.new.items result }
+    {
+        forget_held(self.node, committer, self.height, out)?;
+        self.seal_up(alloc, out)
+    }
 }
 
 // Lays the committer's path to the top of a part; answers its level there.
 pub fn make(
-    heap: Global,
+    alloc: Global,
     part: Part,
     committer: MemberId,
     out: &mut Vec<Order>,
@@ -100,8 +73,14 @@ pub fn make(
         Split::Leaf(_) => Ok(0),
         Split::Parent(left, node, right) => {
             let sides = sides_of(left, right, committer);
-            let level = make(heap, sides.own, committer, out)?;
-            lay(heap, node, committer, sides.other, level, part.height, out)
+            let level = make(alloc, sides.own, committer, out)?;
+            let step = PathStep {
+                node,
+                height: Height::of(part),
+                other: sides.other,
+                level,
+            };
+            step.lay(alloc, committer, out)
         }
     }
 }

@@ -14,7 +14,7 @@ pub enum Way {
     Talk,
 }
 
-#[derive(Clone, Copy)]
+#[derive(Clone, Copy, PartialEq, Eq, Debug)]
 pub enum Order {
     Draw(Slot),
     Derive {

@@ -1,4 +1,4 @@
-use Rattle.std.proofs.Common.{sym, ◌∙◌, arith}
+use Rattle.std.proofs.Common.{sym, ◌∙◌}
 use Rattle.ratchet_tree.specs.Nodes.{leaf_of, numbers, parent_of}
 use Rattle.ratchet_tree.specs.Parts.{part_tree}
 use Rattle.orders.proofs.Halves.{parent-height}
@@ -6,43 +6,28 @@ use Rattle.orders.proofs.Numbering.{at_leaf, height-unmerged, height-merged, hei
 use Rattle.orders.proofs.number.+key_height.Goals as goal
 
 pub returns-in-Leaf : goal.returns-in-Leaf
-returns-in-Leaf t c =
-    record {
-      value = (at_leaf c.args.member.0 (part_tree c.args.part) (leaf_of c.in-Leaf.field-0.now) c.in-Leaf.ensures.1).1;
-      low = omega arith;
-    }
+returns-in-Leaf t c = c.leaf.ensures ∙ (at_leaf c.args.member.0 (part_tree c.args.part) (leaf_of c.in-Leaf.field-0.now) c.in-Leaf.ensures.1).1
 
-pub returns-then-is_among : goal.returns-then-is_among
-returns-then-is_among t c =
-    record {
-      value = height-unmerged c.args.member.0 (part_tree c.args.part) (parent_of c.in-Parent.node.now) (part_tree c.in-Parent.left) (part_tree c.in-Parent.right) c.in-Parent.ensures.tree
-          c.in-Some.keyed.key (numbers c.in-Some.keyed.unmerged.now) c.in-Some.ensures (sym c.if-is_among.ensures);
-      low = omega (arith, c.in-Parent.ensures.left, c.in-Parent.ensures.right);
-    }
+pub returns-in-Some : goal.returns-in-Some
+returns-in-Some t c =
+    c.leaf-in-Some.ensures
+    ∙ height-unmerged c.args.member.0 (part_tree c.args.part) (parent_of c.in-Parent.node.now) (part_tree c.in-Parent.left) (part_tree c.in-Parent.right) c.in-Parent.ensures.tree
+    c.in-Some.keyed.key (numbers c.in-Some.keyed.unmerged.now) c.in-Some.ensures (sym c.is_among.ensures ∙ c.if-is_among.true)
 
-pub returns-else-is_among : goal.returns-else-is_among
-returns-else-is_among t c =
-    record {
-      value = parent-height c.args.part c.in-Parent.left c.in-Parent.ensures.left
-          ∙ height-merged c.args.member.0 (part_tree c.args.part) (parent_of c.in-Parent.node.now) (part_tree c.in-Parent.left) (part_tree c.in-Parent.right) c.in-Parent.ensures.tree
-          c.in-Some.keyed.key (numbers c.in-Some.keyed.unmerged.now) c.in-Some.ensures (sym c.if-is_among.ensures);
-      low = omega (arith, c.in-Parent.ensures.left, c.in-Parent.ensures.right);
-    }
+pub returns-in-Some-2 : goal.returns-in-Some-2
+returns-in-Some-2 t c =
+    c.of.ensures ∙ parent-height c.args.part c.in-Parent.left c.in-Parent.ensures.left
+    ∙ height-merged c.args.member.0 (part_tree c.args.part) (parent_of c.in-Parent.node.now) (part_tree c.in-Parent.left) (part_tree c.in-Parent.right) c.in-Parent.ensures.tree
+    c.in-Some.keyed.key (numbers c.in-Some.keyed.unmerged.now) c.in-Some.ensures (sym c.is_among.ensures ∙ c.if-is_among.false)
 
-pub returns-then-is_seated : goal.returns-then-is_seated
-returns-then-is_seated t c =
-    record {
-      value = c.key_height.ensures.value
-          ∙ height-left c.args.member.0 (part_tree c.args.part) (parent_of c.in-Parent.node.now) (part_tree c.in-Parent.left) (part_tree c.in-Parent.right) c.in-Parent.ensures.tree
-          c.in-None.ensures (sym c.if-is_seated.ensures);
-      low = omega (arith, c.in-Parent.ensures.left, c.in-Parent.ensures.right);
-    }
+pub returns-in-None : goal.returns-in-None
+returns-in-None t c =
+    c.key_height.ensures
+    ∙ height-left c.args.member.0 (part_tree c.args.part) (parent_of c.in-Parent.node.now) (part_tree c.in-Parent.left) (part_tree c.in-Parent.right) c.in-Parent.ensures.tree
+    c.in-None.ensures (sym c.is_seated.ensures ∙ c.if-is_seated.true)
 
-pub returns-else-is_seated : goal.returns-else-is_seated
-returns-else-is_seated t c =
-    record {
-      value = c.key_height-else-is_seated.ensures.value
-          ∙ height-right c.args.member.0 (part_tree c.args.part) (parent_of c.in-Parent.node.now) (part_tree c.in-Parent.left) (part_tree c.in-Parent.right) c.in-Parent.ensures.tree
-          c.in-None.ensures (sym c.if-is_seated.ensures);
-      low = omega (arith, c.in-Parent.ensures.left, c.in-Parent.ensures.right);
-    }
+pub returns-in-None-2 : goal.returns-in-None-2
+returns-in-None-2 t c =
+    c.key_height-in-None-2.ensures
+    ∙ height-right c.args.member.0 (part_tree c.args.part) (parent_of c.in-Parent.node.now) (part_tree c.in-Parent.left) (part_tree c.in-Parent.right) c.in-Parent.ensures.tree
+    c.in-None.ensures (sym c.is_seated.ensures ∙ c.if-is_seated.false)

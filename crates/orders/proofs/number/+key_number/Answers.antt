@@ -17,19 +17,19 @@ returns-in-Some t c =
           c.in-Some.keyed.key (numbers c.in-Some.keyed.unmerged.now) c.in-Some.ensures).0,
     )
 
-pub returns-then-is_seated : goal.returns-then-is_seated
-returns-then-is_seated t c =
+pub returns-in-None : goal.returns-in-None
+returns-in-None t c =
     c.key_number.ensures
     ∙ ap capped (number-left c.args.member.0 (part_tree c.args.part) (parent_of c.in-Parent.node.now) (part_tree c.in-Parent.left) (part_tree c.in-Parent.right) c.in-Parent.ensures.tree
-    c.in-None.ensures (sym c.if-is_seated.ensures))
+    c.in-None.ensures (sym c.is_seated.ensures ∙ c.if-is_seated.true))
 
-pub returns-else-is_seated : goal.returns-else-is_seated
-returns-else-is_seated t c =
+pub returns-in-None-2 : goal.returns-in-None-2
+returns-in-None-2 t c =
     omega (
       arith,
       c.saturating_add.ensures,
       c.resolution_count.ensures,
-      c.key_number-else-is_seated.ensures,
+      c.key_number-in-None-2.ensures,
       number-right c.args.member.0 (part_tree c.args.part) (parent_of c.in-Parent.node.now) (part_tree c.in-Parent.left) (part_tree c.in-Parent.right) c.in-Parent.ensures.tree
-          c.in-None.ensures (sym c.if-is_seated.ensures),
+          c.in-None.ensures (sym c.is_seated.ensures ∙ c.if-is_seated.false),
     )
