@@ -3,7 +3,7 @@
 -- Assumes nothing.
 use Rattle.std.proofs.Common.{◌≡◌, ℕ, zero, suc, ◌+◌, ◌-◌, ◌/◌, ◌<◌, ◌≤◌, List, ◌∷◌, ◌++◌, length, get_or, take, drop, set, sym, refl, ap, ◌∙◌, arith}
 use borrow.Rule.Slice.PartMut.{put_mid, post_of}
-use Rattle.std.proofs.lemmas.List.{take_all, get_or-set_same}
+use Rattle.std.proofs.lemmas.List.{take_all, get_or-set_same, length-append}
 use Rattle.tree_math.specs.Span.{span, left_half, right_half}
 use Rattle.tree_math.proofs.Span.{span-suc, span_pos, split-nodes, take-length, drop-length, built-left, built-middle, built-right, built-length, middle-set-is, left-write-is, right-write-is}
 use Rattle.theory.specs.Tree.{leaf, node}
@@ -100,6 +100,21 @@ module _ (h : ℕ) (ns : List Node) (above : h ≡ 0 → ⊥) (len : length ns �
 
   pub middle-within : length ns / 2 < length ns
   middle-within = omega (arith, span_pos h, len)
+
+-- a line handed back as its left half and the rest, and the rest taken apart
+pub handed-back : (h : ℕ) (ns l s : List Node) (x : Node) (r : List Node) → (h ≡ 0 → ⊥) → length ns ≡ span h →
+    ns ≡ l ++ s → length l ≡ length ns / 2 → s ≡ x ∷ r → Cut (h - 1) ns l x r
+handed-back h ns l s x r above len whole half rest =
+    let is : ns ≡ l ++ x ∷ r = whole ∙ ap (λ t. l ++ t) rest in
+    record {
+      is = is;
+      left = half ∙ middle-at h ns above len;
+      right = omega (arith, half, ap length is, length-append l (x ∷ r), lower-length h ns above len, span-suc (h - 1));
+    }
+
+-- a rest is there
+pub rest-there : (h : ℕ) (ns l s : List Node) → (h ≡ 0 → ⊥) → length ns ≡ span h → ns ≡ l ++ s → length l ≡ length ns / 2 → length s ≡ 0 → ⊥
+rest-there h ns l s above len whole half z = omega (arith, z, ap length whole, length-append l s, half, middle-within h ns above len)
 
 -- the tree of height h of a line that is cut
 pub cut-tree-at : (h : ℕ) → (h ≡ 0 → ⊥) → {ns l : List Node} {x : Node} {r : List Node} → Cut (h - 1) ns l x r →

@@ -1,15 +1,16 @@
 // A member leaves: its leaf and every parent above it become blank.
 ghost use Rattle.std.specs.Prelude.{◌≡◌, ◌≤◌, length, if◌then◌else◌};
 ghost use Rattle.theory.specs.Limits.{max_depth};
-ghost use Rattle.theory.specs.Tree.{blank_leaf, is_at, removed};
+ghost use Rattle.theory.specs.Tree.{blank_leaf, blank_parent, is_at, removed};
 ghost use Rattle.tree_math.specs.Span.{span};
-ghost use Rattle.ratchet_tree.specs.Nodes.{leaf_of, tree_of};
+ghost use Rattle.ratchet_tree.specs.Nodes.{leaf_of, parent_of, tree_of};
 ghost use Rattle.ratchet_tree.specs.Trees.{the_tree};
 
 use crate::member::MemberId;
 use crate::node::{Leaf, Node, Parent};
 use crate::part::Part;
 use crate::tree::RatchetTree;
+use tree_math::halves_mut;
 
 // Blanks the leaf if the member sits there.
 fn vacate(node: &mut Node, member: MemberId)
@@ -18,6 +19,13 @@ fn vacate(node: &mut Node, member: MemberId)
     if node.seats(member) {
         *node = Node::Leaf(Leaf::Blank);
     }
+}
+
+// Blanks a parent.
+fn blank(node: &mut Node)
+    ensures { parent_of node.new ≡ blank_parent }
+{
+    *node = Node::Parent(Parent::Blank);
 }
 
 // Nodes and height go apart: a struct of both, that keeps their fact, gets no generated proof where its slice is lent on.
@@ -31,10 +39,12 @@ fn remove_in(nodes: &mut [Node], height: usize, member: MemberId)
     }
     let part = Part { nodes, height };
     if part.is_seated(member) {
-        let middle = nodes.len() / 2;
-        nodes[middle] = Node::Parent(Parent::Blank);
-        remove_in(&mut nodes[0..middle], height - 1, member);
-        remove_in(&mut nodes[middle + 1..], height - 1, member);
+        let (left, rest) = halves_mut(nodes);
+        if let Some((node, right)) = rest.split_first_mut() {
+            blank(node);
+            remove_in(left, height - 1, member);
+            remove_in(right, height - 1, member);
+        }
     }
 }
 
