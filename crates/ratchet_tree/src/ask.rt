@@ -43,6 +43,7 @@ impl<'a> Part<'a> {
     {
         match self.split() {
             Split::Leaf(node) => node.seats(member).then_some(LeafIndex(0)),
+            // a match and no `or_else`: through a closure the recursion would ask for a measure
             Split::Parent(left, _, right) => match left.position(member) {
                 Some(leaf) => Some(leaf),
                 None => {
