@@ -1,6 +1,6 @@
 -- The code's station, as the state of a play.
 -- `state_of`; `Answered`: one line, `PlayedAll`: all lines, with what they append. Nothing is said where there was no memory.
--- `Begins`: the founder that an input names and the lines behind, or its refusal; `PlayedFrom`: what is printed for these lines.
+-- `Begins`: the founder that an input names and the lines behind, or its refusal.
 -- Assumes nothing.
 use Rattle.std.specs.Prelude.{◌≡◌, ℕ, ◌<◌, ◌≤◌, true, List, ◌∷◌, ◌++◌, length, is_ok, Result, MatchResult}
 use Rattle.theory.specs.Limits.{nobody}
@@ -10,7 +10,7 @@ use Rattle.commits.specs.Refusals.{number_of}
 use Rattle.commits.specs.declared.refusal.Refusal.{Refusal}
 use Rattle.scripts.specs.Line.{founder_bytes}
 use Rattle.scripts.specs.Lines.{lines_of, max_lines}
-use Rattle.playback.specs.Play.{State, Answers, Plays, Printed, founding}
+use Rattle.playback.specs.Play.{State, Answers, Plays, Printed}
 use Rattle.playback.specs.Report.{refusal_bytes}
 use Rattle.playback.specs.declared.script.Station.{Station}
 
@@ -42,7 +42,3 @@ Begins input r =
     MatchResult r
     (λ p. (length (lines_of input) ≤ max_lines) × (lines_of input ≡ founder_bytes p.0 ∷ p.1) × (p.0.0 < nobody))
     (λ refusal. Printed input (refusal_bytes (number_of refusal)))
-
--- the lines were played in the group that the founder founded, and this was printed
-abbrev pub PlayedFrom : MemberId → List (List ℕ) → List ℕ → Type 0
-PlayedFrom founder lines bytes = (end : State) × Plays (founding founder.0) lines end bytes

@@ -1,9 +1,7 @@
 // A script played line by line: what `station` prints.
-ghost use Rattle.std.specs.Prelude.{◌≡◌, IfOk};
-ghost use Rattle.commits.specs.Refusals.{number_of};
+ghost use Rattle.std.specs.Prelude.{IfOk};
 ghost use Rattle.playback.specs.Play.{Printed};
-ghost use Rattle.playback.specs.Report.{refusal_bytes};
-ghost use Rattle.playback.specs.Steps.{Answered, Begins, PlayedAll, PlayedFrom};
+ghost use Rattle.playback.specs.Steps.{Answered, Begins, PlayedAll};
 
 use crate::report::{write_refusal, write_report};
 use commits::{CommitError, CommitKeys, Counts, Epoch, NOBODY, PathKeys, Refusal, apply};
@@ -85,35 +83,21 @@ fn begin(input: &[u8]) -> Result<(MemberId, Lines<'_>), Refusal>
     Ok((founder, lines))
 }
 
-// What is printed for a founder and the lines behind.
-fn played(alloc: Global, founder: MemberId, lines: Lines<'_>) -> Result<Vec<u8>, AllocError>
-    ensures { IfOk result (λ v. PlayedFrom founder lines.entry v.items) }
-{
-    let tree = RatchetTree::founded(alloc, founder, STAND_IN)?;
-    let mut station = Station {
-        tree,
-        epoch: Epoch(0),
-    };
-    let mut out = Vec::new(alloc);
-    play_lines(alloc, &mut station, lines, &mut out)?;
-    Ok(out)
-}
-
-// The line of a refusal alone.
-fn refused(alloc: Global, refusal: Refusal) -> Result<Vec<u8>, AllocError>
-    ensures { IfOk result (λ v. v.items ≡ refusal_bytes (number_of refusal)) }
-{
-    let mut out = Vec::new(alloc);
-    write_refusal(&mut out, refusal)?;
-    Ok(out)
-}
-
 // What is printed for an input, whatever its bytes.
 pub fn play(alloc: Global, input: &[u8]) -> Result<Vec<u8>, AllocError>
     ensures bytes { IfOk result (λ v. Printed input.now v.items) }
 {
+    let mut out = Vec::new(alloc);
     match begin(input) {
-        Ok((founder, lines)) => played(alloc, founder, lines),
-        Err(refusal) => refused(alloc, refusal),
+        Ok((founder, lines)) => {
+            let tree = RatchetTree::founded(alloc, founder, STAND_IN)?;
+            let mut station = Station {
+                tree,
+                epoch: Epoch(0),
+            };
+            play_lines(alloc, &mut station, lines, &mut out)?;
+        }
+        Err(refusal) => write_refusal(&mut out, refusal)?,
     }
+    Ok(out)
 }

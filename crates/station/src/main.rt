@@ -31,22 +31,27 @@ is 0. A wrong call, and an argument that is not UTF-8, end with status 1.
 fn run(rt: &HostRuntime) -> anyhow::Result<ExitCode> {
     let mut args = env::args(rt)?;
     let _program = args.next();
-    if let Some(arg) = args.next() {
-        if arg.as_str() != "--help" || args.next().is_some() {
+    let (first, second) = (args.next(), args.next());
+    match (&first, &second) {
+        (None, _) => {
+            let alloc = rt.alloc();
+            let mut input = Vec::new(alloc);
+            rt.stdin().read_to_end(&mut input)?;
+            let output = play(alloc, &input)?;
+            rt.stdout().write_all(&output)?;
+            Ok(ExitCode::SUCCESS)
+        }
+        (Some(arg), None) if arg.as_str() == "--help" => {
+            rt.print(HELP)?;
+            Ok(ExitCode::SUCCESS)
+        }
+        _ => {
             rt.eprintln(
                 "station: takes no argument but --help; the script comes on standard input",
             )?;
-            return Ok(ExitCode::FAILURE);
+            Ok(ExitCode::FAILURE)
         }
-        rt.print(HELP)?;
-        return Ok(ExitCode::SUCCESS);
     }
-    let heap = rt.alloc();
-    let mut input = Vec::new(heap);
-    rt.stdin().read_to_end(&mut input)?;
-    let output = play(heap, &input)?;
-    rt.stdout().write_all(&output)?;
-    Ok(ExitCode::SUCCESS)
 }
 
 fn main(rt: HostRuntime) -> anyhow::Result<ExitCode> {

@@ -12,8 +12,8 @@ mod tests {
     use std::test::Fail;
 
     // What is printed ends with these bytes.
-    fn ends(rt: &impl Abort, heap: Global, input: &[u8], end: &[u8]) -> Result<(), Fail> {
-        let output = play(heap, input)?;
+    fn ends(rt: &impl Abort, alloc: Global, input: &[u8], end: &[u8]) -> Result<(), Fail> {
+        let output = play(alloc, input)?;
         assert!(rt; output.as_slice().ends_with(end));
         Ok(())
     }
@@ -57,24 +57,22 @@ mod tests {
 
     #[test]
     fn longest_script(rt: HostRuntime) -> Result<(), Fail> {
-        let heap = rt.alloc();
-        let mut script = Vec::new(heap);
-        script.extend_from_slice(b"0\n")?;
+        let alloc = rt.alloc();
+        let mut script = Vec::from_slice(alloc, b"0\n")?;
         for _ in 1..4096 {
             script.extend_from_slice(b"renew 0\n")?;
         }
-        ends(&rt, heap, &script, b"\n4095 0 0 0\n")?;
+        ends(&rt, alloc, &script, b"\n4095 0 0 0\n")?;
         script.extend_from_slice(b"renew 0\n")?;
-        let output = play(heap, &script)?;
+        let output = play(alloc, &script)?;
         assert!(rt; output.as_slice() == b"1\n".as_slice());
         Ok(())
     }
 
     #[test]
     fn full_group(rt: HostRuntime) -> Result<(), Fail> {
-        let heap = rt.alloc();
-        let mut script = Vec::new(heap);
-        script.extend_from_slice(b"0\n")?;
+        let alloc = rt.alloc();
+        let mut script = Vec::from_slice(alloc, b"0\n")?;
         for number in 1..1025u16 {
             let commit = Commit {
                 committer: MemberId(0),
@@ -83,6 +81,6 @@ mod tests {
             write_line(&mut script, commit)?;
             script.push(b'\n')?;
         }
-        ends(&rt, heap, &script, b" . 1022 . 1023\n6\n")
+        ends(&rt, alloc, &script, b" . 1022 . 1023\n6\n")
     }
 }
