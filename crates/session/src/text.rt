@@ -1,5 +1,5 @@
 // An order as a line of text, without its newline.
-ghost use Rattle.std.specs.Prelude.{◌≡◌, Some, IfSome};
+ghost use Rattle.std.specs.Prelude.{◌≡◌, Some};
 ghost use Rattle.ratchet_tree.specs.Keys.{Appends};
 ghost use Rattle.orders.specs.Order.{order_of, way_of};
 ghost use Rattle.session.specs.Text.{hex_text, order_text, word_of_way};
@@ -56,16 +56,9 @@ impl fmt::Display for Line {
     }
 }
 
-// Appends what a value prints.
-fn append<D: fmt::Display + Drop>(out: &mut Vec<u8>, value: D) -> Result<(), AllocError>
-    ensures { IfSome (D.output value) (λ text. Appends out.old.items text out.new.items result) }
-{
-    let text = value.to_string(*out.allocator())?;
-    out.extend_from_slice(text.as_bytes())
-}
-
 pub fn write_order(out: &mut Vec<u8>, order: Order) -> Result<(), AllocError>
     ensures bytes { Appends out.old.items (order_text (order_of order)) out.new.items result }
 {
-    append(out, Line(order))
+    let line = Line(order).to_string(*out.allocator())?;
+    out.extend_from_slice(line.as_bytes())
 }
