@@ -53,18 +53,16 @@ fn answer(
     tree: &[u8],
     messages: &[Vec<u8>],
 ) -> anyhow::Result<Vec<u8>> {
-    let heap = rt.alloc();
-    let mut out = Vec::new(heap);
-    match start(heap, member.as_bytes(), tree) {
+    let alloc = rt.alloc();
+    let mut out = Vec::new(alloc);
+    match start(alloc, member.as_bytes(), tree) {
         Ok(mut handset) => {
             for message in messages {
-                reply(heap, &mut handset, message, &mut out)?;
+                reply(alloc, &mut handset, message, &mut out)?;
             }
         }
-        Err(error) => match error {
-            FileError::Refused(refusal) => session::refuse(refusal, &mut out)?,
-            FileError::OutOfMemory => return Err(anyhow!("no memory")),
-        },
+        Err(FileError::Refused(refusal)) => session::refuse(refusal, &mut out)?,
+        Err(FileError::OutOfMemory) => return Err(anyhow!("no memory")),
     }
     Ok(out)
 }
@@ -74,32 +72,38 @@ fn wrong_call(rt: &HostRuntime) -> anyhow::Result<ExitCode> {
     Ok(ExitCode::FAILURE)
 }
 
-fn run(rt: &HostRuntime) -> anyhow::Result<ExitCode> {
-    let mut args = env::args(rt)?;
-    let _program = args.next();
-    let Some(member) = args.next() else {
-        return wrong_call(rt);
-    };
-    let Some(path) = args.next() else {
-        if member.as_str() != "--help" {
-            return wrong_call(rt);
-        }
-        rt.print(HELP)?;
-        return Ok(ExitCode::SUCCESS);
-    };
-    let Some(tree) = read_file(rt, path.as_str())? else {
+// Plays the letters in these files, as the member of the group in the tree file.
+fn play(
+    rt: &HostRuntime,
+    member: &str,
+    tree: &str,
+    letters: &[String],
+) -> anyhow::Result<ExitCode> {
+    let Some(tree) = read_file(rt, tree)? else {
         return Ok(ExitCode::FAILURE);
     };
     let mut messages = Vec::new(rt.alloc());
-    for path in args {
+    for path in letters {
         let Some(message) = read_file(rt, path.as_str())? else {
             return Ok(ExitCode::FAILURE);
         };
         messages.push(message)?;
     }
-    let output = answer(rt, member.as_str(), &tree, &messages)?;
+    let output = answer(rt, member, &tree, &messages)?;
     rt.stdout().write_all(&output)?;
     Ok(ExitCode::SUCCESS)
+}
+
+fn run(rt: &HostRuntime) -> anyhow::Result<ExitCode> {
+    let words: Vec<String> = env::args(rt)?.collect(rt.alloc())?;
+    match words.as_slice() {
+        [_, member, tree, letters @ ..] => play(rt, member.as_str(), tree.as_str(), letters),
+        [_, word] if word.as_str() == "--help" => {
+            rt.print(HELP)?;
+            Ok(ExitCode::SUCCESS)
+        }
+        _ => wrong_call(rt),
+    }
 }
 
 fn main(rt: HostRuntime) -> anyhow::Result<ExitCode> {

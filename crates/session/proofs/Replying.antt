@@ -1,6 +1,6 @@
 -- The two replies.
 -- Assumes nothing.
-use Rattle.std.proofs.Common.{◌≡◌, ℕ, List, [], ◌∷◌, ◌++◌, map, refl, ap, ◌∙◌, inl, inr}
+use Rattle.std.proofs.Common.{◌≡◌, ℕ, List, [], ◌∷◌, ◌++◌, map, refl, ap, ◌∙◌, append_assoc, inl, inr}
 use Rattle.commits.specs.Refusals.{number_of}
 use Rattle.commits.specs.declared.error.CommitError.TheVariants.{Refused}
 use Rattle.commits.specs.declared.refusal.Refusal.{Refusal}
@@ -11,6 +11,10 @@ use Rattle.orders.specs.Order.{order_of}
 use Rattle.orders.specs.declared.order.Order.{Order}
 use Rattle.vault_theory.specs.Capped.{cap_order}
 use Rattle.session.specs.Reply.{Reply, orders_text, refusal_text}
+
+-- a newline behind what was appended
+pub ended : (a x b c d : List ℕ) → d ≡ c ++ 10 ∷ [] → c ≡ b → b ≡ a ++ x → d ≡ a ++ (x ++ 10 ∷ [])
+ended a x b c d e f g = e ∙ ap (λ l. l ++ 10 ∷ []) (f ∙ g) ∙ append_assoc a x (10 ∷ [])
 
 pub told :
     (h : Handset) (b : List ℕ) (g : Handset) (v items : List Order) (before after : List ℕ) → Responded h b g v → items ≡ v →

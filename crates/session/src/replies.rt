@@ -18,8 +18,7 @@ fn write_line(out: &mut Vec<u8>, order: Order) -> Result<(), AllocError>
     ensures { Appends out.old.items (order_text (order_of order) ++ 10 ∷ []) out.new.items result }
 {
     write_order(out, order)?;
-    out.push(b'\n')?;
-    Ok(())
+    out.extend_from_slice(b"\n")
 }
 
 // Appends orders, one to a line.
@@ -37,42 +36,22 @@ pub fn refuse(refusal: Refusal, out: &mut Vec<u8>) -> Result<(), AllocError>
     ensures bytes { Appends out.old.items (refusal_text (number_of refusal)) out.new.items result }
 {
     write_number(out, u64::from(refusal.number()))?;
-    out.push(b'\n')?;
-    Ok(())
-}
-
-// Appends orders, one to a line, and an empty line.
-fn tell(orders: &[Order], out: &mut Vec<u8>) -> Result<(), AllocError>
-    ensures { Appends out.old.items (orders_text (map order_of orders.now) ++ 10 ∷ []) out.new.items result }
-{
-    write_orders(orders, out)?;
-    out.push(b'\n')?;
-    Ok(())
-}
-
-// Appends the refusal's number and an empty line.
-fn turn_away(refusal: Refusal, out: &mut Vec<u8>) -> Result<(), AllocError>
-    ensures { Appends out.old.items (refusal_text (number_of refusal) ++ 10 ∷ []) out.new.items result }
-{
-    refuse(refusal, out)?;
-    out.push(b'\n')?;
-    Ok(())
+    out.extend_from_slice(b"\n")
 }
 
 // Takes a message or refuses it, and appends the reply.
 pub fn reply(
-    heap: Global,
+    alloc: Global,
     handset: &mut Handset,
     message: &[u8],
     out: &mut Vec<u8>,
 ) -> Result<(), AllocError>
     ensures bytes { Replied handset.old message.now handset.new out.old.items out.new.items result }
 {
-    match respond(heap, handset, message) {
-        Ok(orders) => tell(&orders, out),
-        Err(error) => match error {
-            CommitError::Refused(refusal) => turn_away(refusal, out),
-            CommitError::OutOfMemory => Err(AllocError),
-        },
+    match respond(alloc, handset, message) {
+        Ok(orders) => write_orders(&orders, out)?,
+        Err(CommitError::Refused(refusal)) => refuse(refusal, out)?,
+        Err(CommitError::OutOfMemory) => return Err(AllocError),
     }
+    out.extend_from_slice(b"\n")
 }

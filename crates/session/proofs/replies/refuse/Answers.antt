@@ -1,4 +1,5 @@
 use Rattle.std.proofs.Common.{◌≡◌, vec_items, ap, rules}
+use Rattle.wire.proofs.Appending.{appends-slice}
 use Rattle.commits.specs.Refusals.{number_of}
 use Rattle.ratchet_tree.proofs.Appending.{appends-as, appends-two}
 use Rattle.scripts.specs.Decimal.{decimal}
@@ -12,5 +13,5 @@ returns c =
       bytes =
           appends-as (ap refusal_text is)
           (appends-two (vec_items c.args.out.now) (decimal c.from.result) c.in_ok-write_number.ensures.items
-          (record { items = λ k. c.in_ok-push.ensures.items }));
+          (appends-slice c.extend_from_slice.ensures.items));
     }

@@ -1,6 +1,0 @@
-use Rattle.std.proofs.Common.{◌≡◌, ◌++◌, take, vec_items}
-use Rattle.session.specs.Text.{hex_text}
-use Rattle.session.proofs.text.write_hex.Given as goal
-
-abbrev pub invariant-loop-byte : goal.invariant-loop-byte
-invariant-loop-byte l = vec_items l.out ≡ vec_items l.initial.out ++ hex_text (take l.byte-index l.bytes)
