@@ -84,6 +84,7 @@ fn write_counts(out: &mut Vec<u8>, epoch: Epoch, counts: Counts) -> Result<(), A
     ensures { Appends out.old.items (counts_bytes epoch.0 counts.boxes counts.node_keys) out.new.items result }
 {
     write_number(out, u64::from(epoch.0))?;
+    // There is no `From` of a usize, and an `as` that loses something would not be proved.
     write_behind(out, b' ', counts.boxes as u64)?;
     write_behind(out, b' ', counts.node_keys as u64)
 }

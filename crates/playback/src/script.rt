@@ -28,6 +28,7 @@ fn answer(
 ) -> Result<(), AllocError>
     ensures { Answered station.old line.now station.new out.old.items out.new.items result }
 {
+    // By a rule of the project the reader's answer is taken apart here, and the refusal is what the line answers.
     let Some(commit) = read_line(line) else {
         return write_refusal(out, Refusal::Malformed);
     };

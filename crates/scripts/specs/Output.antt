@@ -1,5 +1,6 @@
 -- What an append leaves.
 -- `Appends old new bytes r`: new is old with the bytes behind it, or with some others where memory fails.
+-- The `Appends` of ratchet_tree says nothing of what is left then; a line that is taken back needs it.
 -- Assumes nothing.
 use Rattle.std.specs.Prelude.{◌≡◌, ℕ, List, ◌++◌, Result, MatchResult}
 
