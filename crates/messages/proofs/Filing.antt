@@ -1,6 +1,6 @@
 -- A whole tree file: its front, then its nodes, and nothing more.
 -- Assumes nothing.
-use Rattle.std.proofs.Common.{◌≡◌, ℕ, ◌+◌, ◌-◌, ◌*◌, ◌<◌, ◌≤◌, List, [], ◌∷◌, ◌++◌, length, get_or, take, drop, Err, sym, ap, ◌∙◌, subst, ap₂, arith}
+use Rattle.std.proofs.Common.{◌≡◌, ℕ, ◌<◌, List, [], ◌∷◌, ◌++◌, Err, sym, ap, ◌∙◌, subst, arith}
 use Rattle.std.proofs.lemmas.List.{append-nil}
 use Rattle.theory.specs.Tree.{Tree}
 use Rattle.ratchet_tree.specs.Nodes.{tree_of}
@@ -11,16 +11,8 @@ use Rattle.messages.specs.TreeFile.{nodes_bytes, file_head, encode_tree, FitsPar
 use Rattle.messages.specs.declared.tree_file.FileHeader.{FileHeader}
 use Rattle.messages.specs.declared.tree_file.FileError.{FileError}
 use Rattle.messages.specs.declared.tree_file.FileError.TheVariants.{Malformed, OutOfMemory}
-use Rattle.wire.proofs.Fronts.{front-6, be32-from}
 use Rattle.messages.proofs.Nodes.{peel-part}
 use Rattle.wire.proofs.Peeling.{peel-byte, peel-32}
-
-pub read-file-head : (b : List ℕ) (e : ℕ) → 6 ≤ length b → ((i : ℕ) → get_or b i 0 < 256) → get_or b 0 0 ≡ 6 →
-    e ≡ get_or b 1 0 * 16777216 + get_or b 2 0 * 65536 + get_or b 3 0 * 256 + get_or b 4 0 → b ≡ file_head e (get_or b 5 0) ++ take (length b - 6) (drop 6 b)
-read-file-head b e h f t x =
-    front-6 b h
-    ∙ ap₂ (λ (n : ℕ) (l : List ℕ). n ∷ l ++ get_or b 5 0 ∷ take (length b - 6) (drop 6 b)) t
-    (sym (be32-from e (get_or b 1 0) (get_or b 2 0) (get_or b 3 0) (get_or b 4 0) x (f 1) (f 2) (f 3) (f 4)))
 
 peel-file : (e d e' d' : ℕ) (r s : List ℕ) → e < 4294967296 → e' < 4294967296 → file_head e d ++ r ≡ file_head e' d' ++ s → (e ≡ e') × (d ≡ d') × (r ≡ s)
 peel-file e d e' d' r s x y q =

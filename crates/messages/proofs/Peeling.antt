@@ -1,25 +1,13 @@
 -- The header and the change of a message have one reading: equal bytes that begin with such a part begin with the same one, and go on alike.
 -- Assumes nothing.
-use Rattle.std.proofs.Common.{◌≡◌, ℕ, ◌+◌, ◌-◌, ◌*◌, ◌<◌, ◌≤◌, List, ◌∷◌, ◌++◌, length, get_or, take, drop, sym, refl, ap, ◌∙◌, ap₂, append_assoc, arith}
+use Rattle.std.proofs.Common.{◌≡◌, ℕ, List, ◌∷◌, ◌++◌, sym, refl, ap, ◌∙◌, ap₂, append_assoc, arith}
 use Rattle.ratchet_tree.specs.declared.member.PublicKey.{PublicKey}
 use Rattle.ratchet_tree.specs.declared.member.MemberId.{MemberId}
-use Rattle.wire.specs.Bytes.{be16, be32, key_bytes, Half}
-use Rattle.wire.proofs.Fronts.{front-10, be16-from, be32-from}
+use Rattle.wire.specs.Bytes.{be16, key_bytes, Half}
 use Rattle.wire.proofs.Peeling.{peel-byte, peel-16, peel-32, peel-key}
 use Rattle.messages.specs.declared.message.MessageChange.{MessageChange}
 use Rattle.messages.specs.declared.message.MessageChange.TheVariants.{Renew, Remove, Add}
 use Rattle.messages.specs.Message.{FitsHead, ChangeOf, head_bytes, change_keys}
-
--- the bytes at the front of a message
-pub read_head : (b : List ℕ) (e m o : ℕ) → 10 ≤ length b → ((i : ℕ) → get_or b i 0 < 256) → get_or b 0 0 ≡ 5 →
-    e ≡ get_or b 1 0 * 16777216 + get_or b 2 0 * 65536 + get_or b 3 0 * 256 + get_or b 4 0 → m ≡ get_or b 6 0 * 256 + get_or b 7 0 → o ≡ get_or b 8 0 * 256 + get_or b 9 0 →
-    b ≡ head_bytes e (get_or b 5 0) m o ++ take (length b - 10) (drop 10 b)
-read_head b e m o h f t x y z =
-    front-10 b h
-    ∙ ap₂ (λ (n : ℕ) (l : List ℕ). n ∷ l ++ get_or b 5 0 ∷ get_or b 6 0 ∷ get_or b 7 0 ∷ get_or b 8 0 ∷ get_or b 9 0 ∷ take (length b - 10) (drop 10 b)) t
-    (sym (be32-from e (get_or b 1 0) (get_or b 2 0) (get_or b 3 0) (get_or b 4 0) x (f 1) (f 2) (f 3) (f 4)))
-    ∙ ap₂ (λ (k l : List ℕ). 5 ∷ be32 e ++ get_or b 5 0 ∷ k ++ l ++ take (length b - 10) (drop 10 b))
-    (sym (be16-from m (get_or b 6 0) (get_or b 7 0) y (f 6) (f 7))) (sym (be16-from o (get_or b 8 0) (get_or b 9 0) z (f 8) (f 9)))
 
 pub peel-head : (e k c o e' k' c' o' : ℕ) (r s : List ℕ) → FitsHead e k c o → FitsHead e' k' c' o' → head_bytes e k c o ++ r ≡ head_bytes e' k' c' o' ++ s →
     (e ≡ e') × (k ≡ k') × (c ≡ c') × (o ≡ o') × (r ≡ s)

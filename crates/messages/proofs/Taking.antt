@@ -5,14 +5,9 @@ use Rattle.std.proofs.lemmas.Bool.{eq-eqb}
 use Rattle.theory.specs.Group.{change_refusal, first_of, refusal}
 use Rattle.theory.specs.Limits.{last_epoch}
 use Rattle.theory.specs.Tree.{Tree, seated}
-use Rattle.ratchet_tree.specs.Trees.{the_tree}
 use Rattle.ratchet_tree.specs.declared.member.PublicKey.{PublicKey}
-use Rattle.commits.specs.Apply.{Stopped}
-use Rattle.commits.specs.declared.error.CommitError.{CommitError}
-use Rattle.commits.specs.declared.error.CommitError.TheVariants.{Refused, OutOfMemory}
 use Rattle.messages.specs.Message.{Message}
-use Rattle.messages.specs.Take.{Left, change_asked, commit_asked, is_newcomer, is_stranger, message_refusal, or_next, right_counts}
-use Rattle.messages.specs.declared.handset.Handset.{Handset}
+use Rattle.messages.specs.Take.{change_asked, commit_asked, is_newcomer, is_stranger, message_refusal, or_next, right_counts}
 
 -- the last epoch is asked about twice
 last-once : (last : Bool) (o x : Option ℕ) → first_of last 9 (or_next (first_of last 9 o) x) ≡ or_next (first_of last 9 o) x
@@ -46,12 +41,3 @@ own-passed e t m n =
 pub only-seven : (b : Bool) (n : ℕ) → first_of b 7 None ≡ Some n → n ≡ 7
 only-seven true n e = let z : 7 ≡ n = cc in sym z
 only-seven false n e = let z : ◌≡◌ {A = ℕ} 0 1 = cc in absurd (omega arith)
-
-pub stopped : (h : Handset) (m : Message) (x : CommitError) → m.epoch ≡ suc h.epoch.0 → is_stranger h.member.0 (the_tree h.tree) m ≡ false →
-    Stopped h.epoch.0 (commit_asked m) (the_tree h.tree) x → Left h m x
-stopped h m (Refused r) n s e =
-    passed h.member.0 h.epoch.0 (the_tree h.tree) m n s
-    ∙ ap (λ (o : Option ℕ). or_next o (first_of (not (right_counts (the_tree h.tree) m)) 7 None)) e
-stopped h m OutOfMemory n s e =
-    λ k q. only-seven (not (right_counts (the_tree h.tree) m)) k
-    (sym (passed h.member.0 h.epoch.0 (the_tree h.tree) m n s ∙ ap (λ (o : Option ℕ). or_next o (first_of (not (right_counts (the_tree h.tree) m)) 7 None)) e) ∙ q)

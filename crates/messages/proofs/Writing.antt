@@ -1,10 +1,8 @@
 -- Bytes appended one part after the other.
 -- Assumes nothing.
-use Rattle.std.proofs.Common.{◌≡◌, ℕ, List, ◌++◌, Result, sym, refl, ap, ◌∙◌, subst, ap₂, append_assoc, arith}
+use Rattle.std.proofs.Common.{◌≡◌, ℕ, List, ◌++◌, Result, refl, ap, ◌∙◌, ap₂, arith}
 use Rattle.std.specs.declared.alloc.AllocError.{AllocError}
 use Rattle.ratchet_tree.specs.Keys.{Appends}
-use Rattle.ratchet_tree.specs.declared.member.MemberId.{MemberId}
-use Rattle.ratchet_tree.specs.declared.member.PublicKey.{PublicKey}
 use Rattle.ratchet_tree.proofs.Appending.{appends-two}
 use Rattle.wire.specs.Bytes.{key_bytes, Half, Whole}
 use Rattle.messages.specs.Message.{Message, FitsChange, HeaderFits, Written, encode, head_bytes, header_bytes, change_keys, keys_bytes, boxes_bytes, kind_of, other_of, kind_asked, other_asked}
@@ -15,13 +13,6 @@ use Rattle.messages.specs.Take.{change_asked}
 use Rattle.commits.specs.Commits.{change_of}
 use Rattle.commits.specs.declared.change.Change.{Change}
 use Rattle.commits.specs.declared.change.Change.TheVariants as change
-
--- the keys of an add
-pub add-written : (x : MessageChange) (m : MemberId) (k i : PublicKey) (a b d : List ℕ) → x ≡ Add m k i → b ≡ a ++ key_bytes k → d ≡ b ++ key_bytes i → d ≡ a ++ change_keys x
-add-written x m k i a b d e p q = q ∙ ap (λ (l : List ℕ). l ++ key_bytes i) p ∙ append_assoc a (key_bytes k) (key_bytes i) ∙ ap (λ (y : MessageChange). a ++ change_keys y) (sym e)
-
-pub add-fits : (x : MessageChange) (m : MemberId) (k i : PublicKey) → x ≡ Add m k i → Half k → Half i → FitsChange x
-add-fits x m k i e h h' = subst (λ (y : MessageChange). FitsChange y) (sym e) (h, h')
 
 -- what is asked has the kind and the other member of the change
 same-head : (a : Change) (c : MessageChange) → change_of a ≡ change_asked c → (kind_asked a ≡ kind_of c) × (other_asked a ≡ other_of c)

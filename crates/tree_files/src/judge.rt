@@ -37,6 +37,7 @@ fn is_leaf_merged(node: &Node, unmerged: &[MemberId]) -> bool
 }
 
 // Is nobody named twice?
+#[tactic(auto, unfolding(theory::specs::Wellformed::distinct))]
 fn is_distinct(members: &[MemberId]) -> bool
     ensures { result ≡ distinct (numbers members.now) }
 {
@@ -57,6 +58,7 @@ fn are_seated(members: &[MemberId], part: Part) -> bool
 // closures, and say of them what each line here says by itself.
 
 // Is somebody seated in the part who isn't unmerged?
+#[tactic(auto, unfolding(theory::specs::Wellformed::some_merged))]
 fn has_merged(part: Part, unmerged: &[MemberId]) -> bool
     ensures { result ≡ some_merged (numbers unmerged.now) (part_tree part.entry) }
 {
@@ -81,6 +83,7 @@ fn is_merging(node: &Node, part: Part) -> bool
 }
 
 // Is nobody seated in both parts?
+#[tactic(auto, unfolding(theory::specs::Wellformed::apart))]
 fn are_apart(part: Part, other: Part) -> bool
     ensures { result ≡ apart (part_tree part.entry) (part_tree other.entry) }
 {
@@ -91,6 +94,7 @@ fn are_apart(part: Part, other: Part) -> bool
 }
 
 // Has everybody a member's number?
+#[tactic(auto, unfolding(theory::specs::Wellformed::numbered))]
 fn is_numbered(part: Part) -> bool
     ensures { result ≡ numbered (part_tree part.entry) }
 {
@@ -101,6 +105,7 @@ fn is_numbered(part: Part) -> bool
 }
 
 // Does nobody sit twice, and does every keyed parent keep the rule of unmerged members?
+#[tactic(auto, unfolding(theory::specs::Wellformed::consistent))]
 fn is_consistent(part: Part) -> bool
     ensures { result ≡ consistent (part_tree part.entry) }
 {

@@ -65,6 +65,7 @@ fn is_countable_at(node: &Node) -> bool
         .is_none_or(|node_key| node_key.unmerged.len() < 65536)
 }
 
+#[tactic(auto, unfolding(crate::specs::Write::countable))]
 fn is_countable(part: Part) -> bool
     ensures { result ≡ countable (part_tree part.entry) }
 {
@@ -76,6 +77,7 @@ fn is_countable(part: Part) -> bool
     }
 }
 
+#[tactic(auto, unfolding(crate::specs::Write::countable, messages::specs::TreeFile::nodes_bytes, messages::specs::TreeFile::FitsPart))]
 fn write_part(out: &mut Vec<u8>, part: Part) -> Result<(), AllocError>
     requires { countable (part_tree part) ≡ true }
     ensures items { Appends out.old.items (nodes_bytes (part_tree part.entry)) out.new.items result }
@@ -100,6 +102,7 @@ fn write_file_header(out: &mut Vec<u8>, header: FileHeader) -> Result<(), AllocE
     out.extend_from_slice(&[6, e0, e1, e2, e3, header.depth as u8])
 }
 
+#[tactic(auto, unfolding(messages::specs::TreeFile::encode_tree))]
 fn append_tree(out: &mut Vec<u8>, epoch: Epoch, tree: &RatchetTree) -> Result<(), AllocError>
     requires { countable (the_tree tree.now) ≡ true }
     ensures items { Appends out.old.items (encode_tree epoch.0 tree.now.depth (the_tree tree.now)) out.new.items result }

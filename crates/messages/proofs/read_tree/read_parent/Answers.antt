@@ -10,12 +10,6 @@ use Rattle.messages.proofs.Nodes.{tagged, parent_is, parent-built}
 use Rattle.wire.proofs.Peeling.{peel-key}
 use Rattle.messages.proofs.read_tree.read_parent.Goals as goal
 
-pub returns-in-0 : goal.returns-in-0
-returns-in-0 c =
-    let one : 1 ≤ length c.args.bytes.now = search rules in
-    let tag : get_or c.args.bytes.now 0 0 ≡ 0 = search rules in
-    (tt, tagged c.args.bytes.now 0 one tag)
-
 pub returns-in_err-key-in-1 : goal.returns-in_err-key-in-1
 returns-in_err-key-in-1 c =
     let one : 1 ≤ length c.args.bytes.now = search rules in
