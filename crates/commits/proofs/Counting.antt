@@ -1,9 +1,10 @@
 -- Counting a path: sums that stop at the largest number, and the node keys and boxes of one parent more.
 -- Assumes nothing.
-use Rattle.std.proofs.Common.{◌≡◌, ℕ, zero, suc, ◌+◌, ◌<◌, ◌≤◌, Bool, true, false, cond, not, List, [], ◌∷◌, ◌++◌, length, get_or, take, drop, sym, refl, ap, ◌∙◌, subst, arith, length-append}
+use Rattle.std.proofs.Common.{◌≡◌, ℕ, zero, suc, ◌+◌, ◌≤◌, Bool, true, false, cond, not, ◌||◌, List, [], ◌∷◌, ◌++◌, length, take, drop, sym, refl, ap, ◌∙◌, subst, arith, append_assoc, length-append}
+use Rattle.std.proofs.lemmas.List.{append-nil}
+use Rattle.std.specs.List.{fold}
 use lib.ListN.{length-map}
 use mir.Val.{bool_byte}
-use Rattle.std.proofs.lemmas.Bool.{cond-true, cond-false}
 use Rattle.theory.proofs.Tests.{by_cond}
 use Rattle.theory.specs.Limits.{max_depth}
 use Rattle.theory.specs.Path.{Laid, laid, level_after, climbed, sealed_to}
@@ -15,9 +16,9 @@ use Rattle.ratchet_tree.specs.declared.member.MemberId.{MemberId}
 use Rattle.ratchet_tree.specs.declared.member.PublicKey.{PublicKey}
 use Rattle.ratchet_tree.specs.declared.node.Node.{Node}
 use Rattle.ratchet_tree.specs.declared.part.Part.{Part}
-use Rattle.ratchet_tree.proofs.Appending.{leaf_keys-more}
 use Rattle.commits.specs.Counts.{capped, next_level, Counted, CountsOf}
 use Rattle.commits.specs.declared.count.Counts.{Counts}
+use Rattle.commits.proofs.Laying.{laid-side, laid-neither, put-back}
 
 -- a test as a number: the key that is there or isn't
 one_key : {K : Type 0} (b : Bool) (k : K) → bool_byte b ≡ capped (length (cond b (k ∷ []) []))
@@ -38,13 +39,18 @@ occupied-count (occupied w k) = refl
 pub append-count : {A : Type 0} (s t : List A) {a b : ℕ} → a ≡ capped (length s) → b ≡ capped (length t) → capped (a + b) ≡ capped (length (s ++ t))
 append-count s t e f = omega (arith, length-append s t)
 
--- one member more
-pub more-count : {K : Type 0} (ms : List MemberId) (i : ℕ) (d : MemberId) (t : Tree K) {a b : ℕ} → i < length ms →
-    a ≡ capped (length (leaf_keys (numbers (take i ms)) t)) → b ≡ capped (length (leaf_key (get_or ms i d).0 t)) →
-    capped (a + b) ≡ capped (length (leaf_keys (numbers (take (i + 1) ms)) t))
-more-count ms i d t h e f =
-    append-count (leaf_keys (numbers (take i ms)) t) (leaf_key (get_or ms i d).0 t) e f
-    ∙ ap (λ l. capped (length l)) (sym (leaf_keys-more ms i d t h))
+-- the count with a member's leaf keys
+abbrev pub with-member : {K : Type 0} → Tree K → ℕ → MemberId → ℕ
+with-member t n m = capped (n + capped (length (leaf_key m.0 t)))
+
+-- the counts of several members' leaf keys, from those counted before
+pub members-count : {K : Type 0} (t : Tree K) (ms : List MemberId) (ks : List K) (n : ℕ) → n ≡ capped (length ks) →
+    fold (with-member t) n ms ≡ capped (length (ks ++ leaf_keys (numbers ms) t))
+unfolding leaf_keys
+members-count t [] ks n e = e ∙ ap (λ l. capped (length l)) (sym (append-nil ks))
+members-count t (m ∷ ms) ks n e =
+    members-count t ms (ks ++ leaf_key m.0 t) (with-member t n m) (append-count ks (leaf_key m.0 t) e refl)
+    ∙ ap (λ l. capped (length l)) (append_assoc ks (leaf_key m.0 t) (leaf_keys (numbers ms) t))
 
 level-more : {K : Type 0} (i : ℕ) (ks : List K) → level_after i ks ≤ suc i
 level-more i [] = omega arith
@@ -87,34 +93,24 @@ climbed-count keys x other put below c n few counted e f g =
     }
 
 -- no node key and no box at a leaf
-pub counts-leaf : (m : ℕ) (t : Tree PublicKey) (x : Leaf PublicKey) → t ≡ leaf x → CountsOf m t (record { node_keys = 0; boxes = 0 })
+pub counts-leaf : (m : ℕ) (t : Tree PublicKey) (x : Leaf PublicKey) (c : Counts) → t ≡ leaf x → c.node_keys ≡ 0 → c.boxes ≡ 0 → CountsOf m t c
 unfolding laid
-counts-leaf m t x e own keys = subst (λ (u : Tree PublicKey). Counted (laid m own keys u) (record { node_keys = 0; boxes = 0 })) (sym e) (record { levels = refl; targets = refl })
+counts-leaf m t x c is e f own keys = subst (λ (u : Tree PublicKey). Counted (laid m own keys u) c) (sym is) (record { levels = e; targets = f })
 
--- the counts of a part, by the half that the member is seated in
+-- the counts of a part, by the side that the member sits in
 module _ (m : ℕ) (t : Tree PublicKey) (p : Parent PublicKey) (l r : Part) (is : t ≡ node p (part_tree l) (part_tree r)) where
   laid-few : (own : PublicKey) (keys : ℕ → PublicKey) (q : Part) → (laid m own keys (part_tree q)).levels ≤ max_depth
   laid-few own keys q = omega (arith, levels-bound m own keys q.height q.nodes.now, q.shallow)
 
-  pub counts-left : (below c : Counts) (n : ℕ) → seated m (part_tree l) ≡ true → CountsOf m (part_tree l) below → n ≡ capped (length (resolution (part_tree r))) →
+  pub counts-side : (s o : Part) → true ≡ (seated m (part_tree l) || seated m (part_tree r)) →
+      part_tree s ≡ cond (seated m (part_tree l)) (part_tree l) (part_tree r) → part_tree o ≡ cond (seated m (part_tree l)) (part_tree r) (part_tree l) →
+      (below c : Counts) (n : ℕ) → CountsOf m (part_tree s) below → n ≡ capped (length (resolution (part_tree o))) →
       c.node_keys ≡ capped (next_level below.node_keys n) → c.boxes ≡ capped (below.boxes + n) → CountsOf m t c
-  unfolding laid
-  counts-left below c n s counted e f g own keys =
+  counts-side s o sits side-is other-is below c n counted e f g own keys =
       subst (λ (x : Laid PublicKey). Counted x c)
-      (sym (ap (laid m own keys) is ∙ cond-true (seated m (part_tree l)) _ _ s))
-      (climbed-count keys (laid m own keys (part_tree l)) (resolution (part_tree r)) (λ q u. node q u (part_tree r)) below c n (laid-few own keys l) (counted own keys) e f g)
+      (sym (laid-side m t p (part_tree l) (part_tree r) is (part_tree s) (part_tree o) sits side-is other-is own keys))
+      (climbed-count keys (laid m own keys (part_tree s)) (resolution (part_tree o)) (put-back m t p (part_tree l) (part_tree r) is) below c n (laid-few own keys s) (counted own keys) e f g)
 
-  pub counts-right : (below c : Counts) (n : ℕ) → seated m (part_tree l) ≡ false → seated m (part_tree r) ≡ true → CountsOf m (part_tree r) below → n ≡ capped (length (resolution (part_tree l))) →
-      c.node_keys ≡ capped (next_level below.node_keys n) → c.boxes ≡ capped (below.boxes + n) → CountsOf m t c
-  unfolding laid
-  counts-right below c n a s counted e f g own keys =
-      subst (λ (x : Laid PublicKey). Counted x c)
-      (sym (ap (laid m own keys) is ∙ cond-false (seated m (part_tree l)) _ _ a ∙ cond-true (seated m (part_tree r)) _ _ s))
-      (climbed-count keys (laid m own keys (part_tree r)) (resolution (part_tree l)) (λ q u. node q (part_tree l) u) below c n (laid-few own keys r) (counted own keys) e f g)
-
-  pub counts-nowhere : seated m (part_tree l) ≡ false → seated m (part_tree r) ≡ false → CountsOf m t (record { node_keys = 0; boxes = 0 })
-  unfolding laid
-  counts-nowhere a b own keys =
-      subst (λ (x : Laid PublicKey). Counted x (record { node_keys = 0; boxes = 0 }))
-      (sym (ap (laid m own keys) is ∙ cond-false (seated m (part_tree l)) _ _ a ∙ cond-false (seated m (part_tree r)) _ _ b))
-      (record { levels = refl; targets = refl })
+  pub counts-nowhere : (c : Counts) → c.node_keys ≡ 0 → c.boxes ≡ 0 → false ≡ (seated m (part_tree l) || seated m (part_tree r)) → CountsOf m t c
+  counts-nowhere c e f sits own keys =
+      subst (λ (x : Laid PublicKey). Counted x c) (sym (laid-neither m t p (part_tree l) (part_tree r) is sits own keys)) (record { levels = e; targets = f })

@@ -1,6 +1,6 @@
 -- Laying a path, by which half the committer sits in: on trees, and on a line of nodes.
 -- Assumes nothing.
-use Rattle.std.proofs.Common.{◌≡◌, ℕ, zero, suc, ◌+◌, ◌-◌, ◌/◌, ◌≤◌, Bool, true, false, cond, not, List, [], ◌∷◌, length, get_or, take, drop, set, sym, ap, ◌∙◌, ap₂, add-one, arith}
+use Rattle.std.proofs.Common.{◌≡◌, ℕ, zero, suc, ◌+◌, ◌-◌, ◌/◌, ◌≤◌, Bool, true, false, cond, not, ◌||◌, List, [], ◌∷◌, length, get_or, take, drop, set, sym, refl, ap, ◌∙◌, ap₂, add-one, arith}
 use mir.Val.{bool_byte}
 use Rattle.std.proofs.lemmas.Bool.{cond-true, cond-false, cond_both}
 use Rattle.theory.specs.Tree.{Tree, node, Parent, blank_parent, keyed, seated, resolution}
@@ -33,6 +33,41 @@ module _ {K : Type 0} (m : ℕ) (own : K) (keys : ℕ → K) (p : Parent K) (l r
   pub laid-nowhere : seated m l ≡ false → seated m r ≡ false → laid m own keys (node p l r) ≡ record { tree = node p l r; levels = 0; targets = [] }
   unfolding laid via_left via_right nowhere
   laid-nowhere e f = cond-false (seated m l) via_left (cond (seated m r) via_right nowhere) e ∙ cond-false (seated m r) via_right nowhere f
+
+-- the same by the side that the member sits in
+module _ {K : Type 0} (m : ℕ) (t : Tree K) (p : Parent K) (l r : Tree K) (is : t ≡ node p l r) where
+  chosen : {A : Type 0} (b c : Bool) (x y z : A) → true ≡ (b || c) → cond b x (cond c y z) ≡ cond b x y
+  chosen true c x y z e = refl
+  chosen false true x y z e = refl
+  chosen false false x y z e = cc
+
+  neither : {A : Type 0} (b c : Bool) (x y z : A) → false ≡ (b || c) → cond b x (cond c y z) ≡ z
+  neither true c x y z e = cc
+  neither false true x y z e = cc
+  neither false false x y z e = refl
+
+  -- a half put back in its place, beside the other
+  pub put-back : Parent K → Tree K → Tree K
+  put-back q u = cond (seated m l) (node q u r) (node q l u)
+
+  by-test : (own : K) (keys : ℕ → K) (b : Bool) →
+      climbed keys (laid m own keys (cond b l r)) (resolution (cond b r l)) (λ q u. cond b (node q u r) (node q l u))
+      ≡ cond b (climbed keys (laid m own keys l) (resolution r) (λ q u. node q u r)) (climbed keys (laid m own keys r) (resolution l) (λ q u. node q l u))
+  by-test own keys true = refl
+  by-test own keys false = refl
+
+  pub laid-side : (s o : Tree K) → true ≡ (seated m l || seated m r) → s ≡ cond (seated m l) l r → o ≡ cond (seated m l) r l →
+      (own : K) (keys : ℕ → K) → laid m own keys t ≡ climbed keys (laid m own keys s) (resolution o) put-back
+  unfolding laid put-back
+  laid-side s o e f g own keys =
+      ap (laid m own keys) is
+      ∙ chosen (seated m l) (seated m r) _ _ _ e
+      ∙ sym (by-test own keys (seated m l))
+      ∙ ap₂ (λ u v. climbed keys (laid m own keys u) (resolution v) put-back) (sym f) (sym g)
+
+  pub laid-neither : false ≡ (seated m l || seated m r) → (own : K) (keys : ℕ → K) → laid m own keys t ≡ record { tree = node p l r; levels = 0; targets = [] }
+  unfolding laid
+  laid-neither e own keys = ap (laid m own keys) is ∙ neither (seated m l) (seated m r) _ _ _ e
 
 -- the parent and the level above a part, from a test of the other side
 pub parent-laid : {K : Type 0} (keys : ℕ → K) (i : ℕ) (b : Bool) (other : List K) → b ≡ not (is_none other) → cond b (keyed (keys i) []) blank_parent ≡ parent_laid keys i other

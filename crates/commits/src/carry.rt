@@ -1,17 +1,20 @@
 // A commit carried out on a tree: what is asked, then the path. The tree changes only when all of it is done.
-ghost use Rattle.std.specs.Prelude.{◌≡◌};
+ghost use Rattle.std.specs.Prelude.{◌≡◌, ◌+◌, map, length, IfOk, OnOk, OnErr};
+ghost use Rattle.theory.specs.Path.{laid};
 ghost use Rattle.ratchet_tree.specs.Trees.{the_tree};
 ghost use Rattle.commits.specs.Apply.{Applies, Asked, Counting, MessageCounts, Ready, welcomes};
 ghost use Rattle.commits.specs.Commits.{change_of, commit_of};
+ghost use Rattle.commits.specs.Path.{key_from};
+ghost use Rattle.commits.specs.Targets.{target_of};
 
 use crate::change::{Change, Commit, Epoch};
 use crate::count::{Counts, path_counts};
 use crate::error::CommitError;
-use crate::judge::verdict;
+use crate::judge::allow;
 use crate::path::{PathKeys, lay_path};
 use crate::targets::{Target, path_targets};
-use ratchet_tree::{MemberId, PublicKey, RatchetTree, TreeError};
-use std::alloc::Global;
+use ratchet_tree::{PublicKey, RatchetTree, TreeError};
+use std::alloc::{AllocError, Global};
 
 // The public halves that a commit brings. Only an add has a newcomer's leaf key.
 #[derive(Clone, Copy)]
@@ -30,26 +33,27 @@ pub struct Applied {
 
 // The tree with what is asked, before the path.
 fn asked(
-    heap: Global,
+    alloc: Global,
     tree: &RatchetTree,
     change: Change,
     newcomer: PublicKey,
 ) -> Result<RatchetTree, TreeError>
     ensures { Asked (change_of change) newcomer (the_tree tree.now) result }
 {
-    if let Change::Add(member) = change {
-        return tree.with_member(heap, member, newcomer);
+    match change {
+        Change::Renew => Ok(tree.copy(alloc)?),
+        Change::Remove(member) => {
+            let mut next = tree.copy(alloc)?;
+            next.remove(member);
+            Ok(next)
+        }
+        Change::Add(member) => tree.with_member(alloc, member, newcomer),
     }
-    let mut next = tree.copy(heap)?;
-    if let Change::Remove(member) = change {
-        next.remove(member);
-    }
-    Ok(next)
 }
 
 // The tree that the path is laid on, or the refusal.
 pub fn ready(
-    heap: Global,
+    alloc: Global,
     tree: &RatchetTree,
     epoch: Epoch,
     commit: Commit,
@@ -57,44 +61,29 @@ pub fn ready(
 ) -> Result<RatchetTree, CommitError>
     ensures tree { Ready epoch.0 (commit_of commit) newcomer (the_tree tree.now) result }
 {
-    if let Some(refusal) = verdict(tree, epoch, commit) {
-        return Err(refusal.into());
-    }
-    Ok(asked(heap, tree, commit.change, newcomer)?)
+    allow(tree, epoch, commit)?;
+    Ok(asked(alloc, tree, commit.change, newcomer)?)
 }
 
-// A newcomer is also sent the epoch's secret.
-fn welcome_count(change: Change) -> usize
-    ensures { result ≡ welcomes (change_of change) }
-{
-    match change {
-        Change::Add(_) => 1,
-        _ => 0,
-    }
-}
-
-// Carries a renewal out. Nothing is asked besides the path, and laying it takes no memory, so that this needs no copy.
-fn renew(
-    heap: Global,
+// Lays the committer's path on the tree and says what the message holds. Only the targets take memory, and they come
+// first: without them the tree is as it was.
+fn seal_and_lay(
+    alloc: Global,
     tree: &mut RatchetTree,
-    epoch: Epoch,
-    committer: MemberId,
-    keys: CommitKeys,
-) -> Result<Applied, CommitError>
-    ensures tree { Applies epoch.0 (commit_of (record { committer = committer; change = Change.Renew })) keys.entry tree.old tree.new result }
+    commit: Commit,
+    path: PathKeys,
+) -> Result<Applied, AllocError>
+    ensures tree { OnOk result (the_tree tree.new ≡ (laid commit.committer.0 path.entry.leaf (key_from path.entry) (the_tree tree.old)).tree) }
+    ensures keys { IfOk result (λ a. a.node_keys ≡ (laid commit.committer.0 path.entry.leaf (key_from path.entry) (the_tree tree.old)).levels) }
+    ensures targets { IfOk result (λ a. map target_of a.targets.items ≡ (laid commit.committer.0 path.entry.leaf (key_from path.entry) (the_tree tree.old)).targets) }
+    ensures boxes { IfOk result (λ a. a.boxes ≡ length a.targets.items + welcomes (change_of commit.change)) }
+    ensures unchanged { OnErr result (tree.new ≡ tree.old) }
 {
-    let commit = Commit {
-        committer,
-        change: Change::Renew,
-    };
-    if let Some(why) = verdict(tree, epoch, commit) {
-        return Err(why.into());
-    }
-    let targets = path_targets(heap, tree.as_part(), committer)?;
-    let node_keys = lay_path(heap, tree, committer, keys.path);
+    let targets = path_targets(alloc, tree.as_part(), commit.committer)?;
+    let node_keys = lay_path(alloc, tree, commit.committer, path);
     Ok(Applied {
         node_keys,
-        boxes: targets.len(),
+        boxes: targets.len() + commit.change.welcomes(),
         targets,
     })
 }
@@ -102,7 +91,7 @@ fn renew(
 // Carries a commit out: the tree after it and what its message holds; or why not, and then the tree is as it was.
 // Lays as many of the node keys as the path has levels; past the last one the leaf key stands in.
 pub fn apply(
-    heap: Global,
+    alloc: Global,
     tree: &mut RatchetTree,
     epoch: Epoch,
     commit: Commit,
@@ -110,19 +99,19 @@ pub fn apply(
 ) -> Result<Applied, CommitError>
     ensures tree { Applies epoch.0 (commit_of commit) keys.entry tree.old tree.new result }
 {
-    if let Change::Renew = commit.change {
-        return renew(heap, tree, epoch, commit.committer, keys);
+    match commit.change {
+        // Nothing is asked besides the path, so that this needs no copy.
+        Change::Renew => {
+            allow(tree, epoch, commit)?;
+            Ok(seal_and_lay(alloc, tree, commit, keys.path)?)
+        }
+        Change::Remove(_) | Change::Add(_) => {
+            let mut next = ready(alloc, tree, epoch, commit, keys.newcomer)?;
+            let applied = seal_and_lay(alloc, &mut next, commit, keys.path)?;
+            *tree = next;
+            Ok(applied)
+        }
     }
-    let mut next = ready(heap, tree, epoch, commit, keys.newcomer)?;
-    let targets = path_targets(heap, next.as_part(), commit.committer)?;
-    let node_keys = lay_path(heap, &mut next, commit.committer, keys.path);
-    let boxes = targets.len() + welcome_count(commit.change);
-    *tree = next;
-    Ok(Applied {
-        node_keys,
-        boxes,
-        targets,
-    })
 }
 
 // How many node keys and boxes the message of a commit has to have, from the tree that the path is to be laid on.
@@ -130,7 +119,7 @@ pub fn message_counts(readied: &RatchetTree, commit: Commit) -> Counts
     ensures value { MessageCounts (commit_of commit) (the_tree readied.now) result }
 {
     let path = path_counts(readied.as_part(), commit.committer);
-    let boxes = path.boxes.saturating_add(welcome_count(commit.change));
+    let boxes = path.boxes.saturating_add(commit.change.welcomes());
     Counts {
         node_keys: path.node_keys,
         boxes,
@@ -139,7 +128,7 @@ pub fn message_counts(readied: &RatchetTree, commit: Commit) -> Counts
 
 // The same from the tree before the commit: the counts, or why it is not carried out. Works on a copy.
 pub fn commit_counts(
-    heap: Global,
+    alloc: Global,
     tree: &RatchetTree,
     epoch: Epoch,
     commit: Commit,
@@ -147,6 +136,6 @@ pub fn commit_counts(
 ) -> Result<Counts, CommitError>
     ensures value { Counting epoch.0 (commit_of commit) newcomer (the_tree tree.now) result }
 {
-    let readied = ready(heap, tree, epoch, commit, newcomer)?;
+    let readied = ready(alloc, tree, epoch, commit, newcomer)?;
     Ok(message_counts(&readied, commit))
 }

@@ -1,4 +1,9 @@
 // What a commit asks for.
+ghost use Rattle.std.specs.Prelude.{◌≡◌};
+ghost use Rattle.commits.specs.Apply.{welcomes};
+ghost use Rattle.commits.specs.Commits.{change_of};
+
+use crate::limits::LAST_EPOCH;
 use ratchet_tree::MemberId;
 
 // What is asked, besides the committer's own new keys.
@@ -9,6 +14,15 @@ pub enum Change {
     Add(MemberId),
 }
 
+impl Change {
+    // How many boxes are for newcomers: one is also sent the epoch's secret.
+    pub(crate) fn welcomes(self) -> usize
+        ensures { result ≡ welcomes (change_of self) }
+    {
+        matches!(self, Change::Add(_)) as usize
+    }
+}
+
 // A change and the member that makes it.
 #[derive(Clone, Copy, PartialEq, Eq, Debug)]
 pub struct Commit {
@@ -17,5 +31,10 @@ pub struct Commit {
 }
 
 // How many commits a group has taken since its founding.
-#[derive(Clone, Copy, PartialEq, Eq, Debug)]
+#[derive(Clone, Copy, PartialEq, Eq, PartialOrd, Ord, Debug)]
 pub struct Epoch(pub u32);
+
+impl Epoch {
+    // The epoch after which there is no other.
+    pub const LAST: Epoch = Epoch(LAST_EPOCH);
+}

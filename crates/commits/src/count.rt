@@ -6,9 +6,9 @@ ghost use Rattle.ratchet_tree.specs.Nodes.{numbers};
 ghost use Rattle.ratchet_tree.specs.Parts.{part_tree};
 ghost use Rattle.commits.specs.Counts.{CountsOf, capped, next_level};
 
-use ratchet_tree::{MemberId, Part, Split};
+use ratchet_tree::{MemberId, Part, Sides, Split};
 
-#[derive(Clone, Copy, PartialEq, Eq, Debug)]
+#[derive(Clone, Copy, Default, PartialEq, Eq, Debug)]
 pub struct Counts {
     pub node_keys: usize,
     pub boxes: usize,
@@ -30,11 +30,9 @@ fn leaf_key_count(part: Part, member: MemberId) -> usize
 fn leaf_keys_count(part: Part, members: &[MemberId]) -> usize
     ensures { result ≡ capped (length (leaf_keys (numbers members.now) (part_tree part.entry))) }
 {
-    let mut count: usize = 0;
-    for member in members {
-        count = count.saturating_add(leaf_key_count(part, *member));
-    }
-    count
+    members.iter().fold(0, |count: usize, member| {
+        count.saturating_add(leaf_key_count(part, *member))
+    })
 }
 
 // The length of the part's resolution.
@@ -71,21 +69,12 @@ pub fn path_counts(part: Part, committer: MemberId) -> Counts
     ensures value { CountsOf committer.0 (part_tree part.entry) result }
 {
     match part.split() {
-        Split::Leaf(_) => Counts {
-            node_keys: 0,
-            boxes: 0,
-        },
-        Split::Parent(left, _, right) => {
-            if left.is_seated(committer) {
-                path_counts(left, committer).climbed(resolution_count(right))
-            } else if right.is_seated(committer) {
-                path_counts(right, committer).climbed(resolution_count(left))
-            } else {
-                Counts {
-                    node_keys: 0,
-                    boxes: 0,
-                }
+        Split::Leaf(_) => Counts::default(),
+        Split::Parent(left, _, right) => match Sides::of(left, right, committer) {
+            Some(sides) => {
+                path_counts(sides.own, committer).climbed(resolution_count(sides.other))
             }
-        }
+            None => Counts::default(),
+        },
     }
 }

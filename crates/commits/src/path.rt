@@ -56,13 +56,13 @@ fn key_at(keys: PathKeys, level: usize) -> PublicKey
 }
 
 // The parent above a level: keyed where there is somebody on its other side to seal to, else blank.
-fn lay_parent(heap: Global, node: &mut Node, key: PublicKey, reached: bool)
+fn lay_parent(alloc: Global, node: &mut Node, key: PublicKey, reached: bool)
     ensures { parent_of node.new ≡ (if reached then keyed key [] else blank_parent) }
 {
     let parent = if reached {
         Parent::Keyed {
             key,
-            unmerged: Vec::new(heap),
+            unmerged: Vec::new(alloc),
         }
     } else {
         Parent::Blank
@@ -72,7 +72,7 @@ fn lay_parent(heap: Global, node: &mut Node, key: PublicKey, reached: bool)
 
 // Lays the path in a part; answers how many node keys that took.
 fn lay_in(
-    heap: Global,
+    alloc: Global,
     nodes: &mut [Node],
     height: usize,
     member: MemberId,
@@ -97,24 +97,24 @@ fn lay_in(
     };
     if left.is_seated(member) {
         let reached = is_reached(right);
-        let level = lay_in(heap, &mut nodes[0..middle], height - 1, member, keys);
-        lay_parent(heap, &mut nodes[middle], key_at(keys, level), reached);
+        let level = lay_in(alloc, &mut nodes[0..middle], height - 1, member, keys);
+        lay_parent(alloc, &mut nodes[middle], key_at(keys, level), reached);
         return level + reached as usize;
     }
     if right.is_seated(member) {
         let reached = is_reached(left);
-        let level = lay_in(heap, &mut nodes[middle + 1..], height - 1, member, keys);
-        lay_parent(heap, &mut nodes[middle], key_at(keys, level), reached);
+        let level = lay_in(alloc, &mut nodes[middle + 1..], height - 1, member, keys);
+        lay_parent(alloc, &mut nodes[middle], key_at(keys, level), reached);
         return level + reached as usize;
     }
     0
 }
 
 // The committer takes its new leaf key and lays its node keys from its leaf to the top; answers how many that took.
-pub fn lay_path(heap: Global, tree: &mut RatchetTree, committer: MemberId, keys: PathKeys) -> usize
+pub fn lay_path(alloc: Global, tree: &mut RatchetTree, committer: MemberId, keys: PathKeys) -> usize
     ensures tree { the_tree tree.new ≡ (laid committer.0 keys.entry.leaf (key_from keys.entry) (the_tree tree.old)).tree }
     ensures value { result ≡ (laid committer.0 keys.entry.leaf (key_from keys.entry) (the_tree tree.old)).levels }
 {
     let depth = tree.depth;
-    lay_in(heap, &mut tree.nodes, depth, committer, keys)
+    lay_in(alloc, &mut tree.nodes, depth, committer, keys)
 }

@@ -6,7 +6,7 @@ ghost use Rattle.ratchet_tree.specs.Keys.{Appends};
 ghost use Rattle.ratchet_tree.specs.Parts.{part_tree};
 ghost use Rattle.commits.specs.Targets.{SealsOther, SealsPath, Targets, target_of};
 
-use ratchet_tree::{MemberId, Part, PublicKey, Split};
+use ratchet_tree::{MemberId, Part, PublicKey, Sides, Split};
 use std::alloc::{AllocError, Global};
 
 // A key that is sealed to, and the level of the path secret that it is given.
@@ -19,15 +19,12 @@ pub struct Target {
 fn push_sealed(keys: &[PublicKey], level: usize, out: &mut Vec<Target>) -> Result<(), AllocError>
     ensures { Appends (map target_of out.old.items) (sealed_to level keys.now) (map target_of out.new.items) result }
 {
-    for key in keys {
-        out.push(Target { key: *key, level })?;
-    }
-    Ok(())
+    out.extend(keys.iter().map(|key| Target { key: *key, level }))
 }
 
 // Seals to the other side of the path; answers the level above.
 fn seal_to(
-    heap: Global,
+    alloc: Global,
     other: Part,
     level: usize,
     out: &mut Vec<Target>,
@@ -35,7 +32,7 @@ fn seal_to(
     requires { level ≤ max_depth }
     ensures { SealsOther level (part_tree other.entry) out.old.items out.new.items result }
 {
-    let keys = other.resolution(heap)?;
+    let keys = other.resolution(alloc)?;
     push_sealed(&keys, level, out)?;
     if keys.is_empty() {
         Ok(level)
@@ -46,7 +43,7 @@ fn seal_to(
 
 // Seals along the path in a part; answers how many levels it has.
 fn push_targets(
-    heap: Global,
+    alloc: Global,
     part: Part,
     member: MemberId,
     out: &mut Vec<Target>,
@@ -55,29 +52,25 @@ fn push_targets(
 {
     match part.split() {
         Split::Leaf(_) => Ok(0),
-        Split::Parent(left, _, right) => {
-            if left.is_seated(member) {
-                let level = push_targets(heap, left, member, out)?;
-                return seal_to(heap, right, level, out);
+        Split::Parent(left, _, right) => match Sides::of(left, right, member) {
+            Some(sides) => {
+                let level = push_targets(alloc, sides.own, member, out)?;
+                seal_to(alloc, sides.other, level, out)
             }
-            if right.is_seated(member) {
-                let level = push_targets(heap, right, member, out)?;
-                return seal_to(heap, left, level, out);
-            }
-            Ok(0)
-        }
+            None => Ok(0),
+        },
     }
 }
 
 // The targets of the committer's path in a part, from below.
 pub fn path_targets(
-    heap: Global,
+    alloc: Global,
     part: Part,
     committer: MemberId,
 ) -> Result<Vec<Target>, AllocError>
     ensures value { IfOk result (λ v. Targets committer.0 (part_tree part.entry) v.items) }
 {
-    let mut targets = Vec::new(heap);
-    push_targets(heap, part, committer, &mut targets)?;
+    let mut targets = Vec::new(alloc);
+    push_targets(alloc, part, committer, &mut targets)?;
     Ok(targets)
 }

@@ -1,7 +1,6 @@
 -- A message made of a vault's answers.
 -- Assumes nothing.
-use Rattle.std.proofs.Common.{◌≡◌, ℕ, suc, ◌+◌, ◌-◌, ◌*◌, ◌/◌, ◌<◌, ◌≤◌, Bool, true, false, not, ◌&&◌, ◌||◌, T, eqb, ltb, List, [], ◌∷◌, ◌++◌, length, get_or, take, drop, Some, None, Ok, Err, Option, Result, sym, refl, ap, ◌∙◌, subst, ap₂, add-one, arith}
-use Rattle.std.proofs.lemmas.List.{take_all, take_more}
+use Rattle.std.proofs.Common.{◌≡◌, ℕ, suc, ◌+◌, ◌*◌, ◌/◌, Bool, true, false, not, ◌&&◌, ◌||◌, T, eqb, ltb, List, [], ◌∷◌, length, Some, None, Ok, Err, Option, Result, sym, refl, ap, ◌∙◌, subst, ap₂, add-one, arith}
 use Rattle.std.proofs.lemmas.Bool.{and_from, eq-eqb, lt-ltb}
 use Rattle.theory.specs.Group.{first_of, refusal}
 use Rattle.theory.specs.Tree.{Tree, seated}
@@ -9,25 +8,18 @@ use Rattle.ratchet_tree.specs.Trees.{the_tree}
 use Rattle.ratchet_tree.specs.declared.member.PublicKey.{PublicKey}
 use Rattle.commits.specs.declared.error.CommitError.{CommitError}
 use Rattle.commits.specs.declared.error.CommitError.TheVariants.{Refused, OutOfMemory}
-use Rattle.wire.specs.Bytes.{key_bytes, Whole}
+use Rattle.wire.specs.Bytes.{Whole}
 use Rattle.messages.specs.Compose.{Composed, ComposedIsTaken, Composes, Made, Makes, Unmade, commit_by, compose_refusal, countable, has_parts, make_refusal, message_by}
-use Rattle.messages.specs.Message.{Message, Fits, encode}
+use Rattle.messages.specs.Errors.{unwritten}
+use Rattle.messages.specs.Message.{Message, Fits, Sent, encode}
 use Rattle.messages.specs.Received.{TakesBytes}
 use Rattle.messages.specs.Take.{Left, Taken, commit_asked, is_newcomer, joined_keys, message_refusal, or_next, right_counts}
 use Rattle.messages.specs.declared.handset.Handset.{Handset}
 use Rattle.messages.specs.declared.message.MessageChange.{MessageChange}
+use Rattle.messages.specs.declared.message.WriteError.{WriteError}
+use Rattle.messages.specs.declared.message.WriteError.TheVariants as write-error
 use Rattle.messages.proofs.Delivery.{took}
-use Rattle.messages.proofs.PathKeys.{joined-more}
 use Rattle.messages.proofs.Taking.{only-seven, own-passed, passed}
-
--- KEYS one after the other.
-pub none-joined : (bs : List ℕ) (ks : List PublicKey) → bs ≡ [] → bs ≡ joined_keys (take 0 ks)
-unfolding joined_keys
-none-joined bs ks e = e
-
-pub one-joined : (bs more : List ℕ) (ks : List PublicKey) (i : ℕ) (d : PublicKey) → bs ≡ joined_keys (take i ks) → more ≡ bs ++ key_bytes (get_or ks i d) → i < length ks → more ≡ joined_keys (take (i + 1) ks)
-one-joined bs more ks i d e m l =
-    m ∙ ap (λ (b : List ℕ). b ++ key_bytes (get_or ks i d)) e ∙ sym (joined-more (take i ks) (get_or ks i d)) ∙ ap joined_keys (sym (take_more ks i d l))
 
 -- WHY NOTHING IS MADE.
 only-seven-after : (o : Option ℕ) (b : Bool) → ((n : ℕ) → o ≡ Some n → n ≡ 7) → (n : ℕ) → or_next o (first_of b 7 None) ≡ Some n → n ≡ 7
@@ -38,11 +30,22 @@ pub left-unmade : (h : Handset) (m : Message) (e : CommitError) → Left h m e �
 left-unmade h m (Refused x) l = ap (λ (o : Option ℕ). or_next o (first_of (not (countable m)) 7 None)) l
 left-unmade h m OutOfMemory l = only-seven-after (message_refusal h.member.0 h.epoch.0 (the_tree h.tree) m) (not (countable m)) l
 
+not-so : (b : Bool) → (b ≡ true → ⊥) → b ≡ false
+not-so true never = absurd (never refl)
+not-so false never = refl
+
 -- a message that is not refused, and no memory
-pub free-unmade : (h : Handset) (m : Message) → message_refusal h.member.0 h.epoch.0 (the_tree h.tree) m ≡ None →
+free-unmade : (h : Handset) (m : Message) → message_refusal h.member.0 h.epoch.0 (the_tree h.tree) m ≡ None →
     (n : ℕ) → make_refusal h.member.0 h.epoch.0 (the_tree h.tree) m ≡ Some n → n ≡ 7
 free-unmade h m free n e =
     only-seven (not (countable m)) n (ap (λ (o : Option ℕ). or_next o (first_of (not (countable m)) 7 None)) (sym free) ∙ e)
+
+-- a message that can't be counted, or no memory
+pub unwritten-unmade : (h : Handset) (m : Message) → message_refusal h.member.0 h.epoch.0 (the_tree h.tree) m ≡ None → (countable m ≡ true → Fits m) →
+    (before after : List ℕ) (e : WriteError) → Sent m before after (Err e) → Unmade (make_refusal h.member.0 h.epoch.0 (the_tree h.tree) m) (unwritten e)
+unwritten-unmade h m free fits before after write-error.DoesNotFit s =
+    ap₂ (λ (o : Option ℕ) (b : Bool). or_next o (first_of (not b) 7 None)) free (not-so (countable m) (λ t. s.1 (fits t)))
+unwritten-unmade h m free fits before after write-error.OutOfMemory s = free-unmade h m free
 
 -- A VAULT'S ANSWERS.
 abbrev after_counts : Tree PublicKey → Message → Option ℕ
@@ -68,6 +71,12 @@ then-seven w e t a (leaf ∷ nodes) boxes r n q =
     only-seven-after (message_refusal w e t m) (not (countable m))
     (λ k f. only-seven (not (right_counts t m)) k (sym (own-passed e t m refl ∙ ap (λ (o : Option ℕ). or_next o (after_counts t m)) r) ∙ f)) n q
 
+-- no leaf key
+pub no-leaf : (w e : ℕ) (t : Tree PublicKey) (a : MessageChange) (halves : List PublicKey) (boxes : List ℕ) →
+    length halves ≡ 0 → refusal e (commit_by w a) t ≡ None → compose_refusal w e t a halves boxes ≡ Some 7
+no-leaf w e t a [] boxes l r = ap (λ (o : Option ℕ). or_next o (Some 7)) r
+no-leaf w e t a (leaf ∷ nodes) boxes l r = absurd (omega arith)
+
 -- the message that was made is that of the answers
 same-made : {V : Type 0} (items : V → List ℕ) (h : Handset) (a : MessageChange) (boxes : List ℕ) (leaf : PublicKey) (nodes : List PublicKey) (m : Message) (r : Result V CommitError) →
     m ≡ message_by h.member.0 h.epoch.0 a leaf nodes boxes → Makes items h m r → Composes items h a (leaf ∷ nodes) boxes r
@@ -80,12 +89,11 @@ same-made items h a boxes leaf nodes m (Err x) s q =
 abbrev pub message_at : ℕ → ℕ → MessageChange → PublicKey → List ℕ → List ℕ → Message
 message_at w e a leaf keys boxes = record { epoch = e; committer = w; change = a; leaf_key = leaf; node_keys = keys; boxes = boxes }
 
-pub made-composed : {V : Type 0} (items : V → List ℕ) (h : Handset) (a : MessageChange) (halves : List PublicKey) (boxes keys : List ℕ) (d : PublicKey) (r : Result V CommitError) →
-    1 ≤ length halves → keys ≡ joined_keys (take (length halves - 1) (drop 1 halves)) → Makes items h (message_at h.member.0 (h.epoch.0 + 1) a (get_or halves 0 d) keys boxes) r → Composes items h a halves boxes r
-made-composed items h a [] boxes keys d r l e q = absurd (omega arith)
-made-composed items h a (leaf ∷ nodes) boxes keys d r l e q =
-    same-made items h a boxes leaf nodes _ r
-    (ap₂ (λ (i : ℕ) (ks : List ℕ). message_at h.member.0 i a leaf ks boxes) (add-one h.epoch.0) (e ∙ ap joined_keys (take_all (length (leaf ∷ nodes) - 1) nodes (omega arith)))) q
+pub made-composed : {V : Type 0} (items : V → List ℕ) (h : Handset) (a : MessageChange) (halves : List PublicKey) (boxes keys : List ℕ) (leaf : PublicKey) (nodes : List PublicKey) (r : Result V CommitError) →
+    halves ≡ leaf ∷ nodes → keys ≡ joined_keys nodes → Makes items h (message_at h.member.0 (h.epoch.0 + 1) a leaf keys boxes) r → Composes items h a halves boxes r
+made-composed items h a halves boxes keys leaf nodes r e f q =
+    subst (λ (hs : List PublicKey). Composes items h a hs boxes r) (sym e)
+    (same-made items h a boxes leaf nodes _ r (ap₂ (λ (i : ℕ) (ks : List ℕ). message_at h.member.0 i a leaf ks boxes) (add-one h.epoch.0) f) q)
 
 -- WHOM IT CONCERNS takes what was made.
 no-stranger : (seat new : Bool) → T (seat || new) → (not seat && not new) ≡ false

@@ -1,4 +1,5 @@
 mod Peeling
+mod Missing
 pub mod Reading
 mod Writing
 pub mod Members

@@ -1,4 +1,5 @@
 pub mod Message
+pub mod Errors
 pub mod Take
 pub mod Received
 pub mod Letters

@@ -2,10 +2,12 @@
 -- `Message`: what a message says, `message_of` the code's; `kind_of`, `other_of`, `change_keys`: the parts of a change; `head_bytes`, `keys_bytes`, `boxes_bytes`: the parts of a message;
 -- `encode`: its bytes; `Fits`: every number fits its width, every half has 32 bytes, every box 48; `Received`: what reading answers; `Sent`: what writing does.
 -- Assumes nothing.
-use Rattle.std.specs.Prelude.{◌≡◌, ℕ, ◌/◌, ◌<◌, true, List, [], ◌∷◌, ◌++◌, length, is_ok, Ok, Err, Result, ◌≢◌}
+use Rattle.std.specs.Prelude.{◌≡◌, ℕ, ◌/◌, ◌<◌, true, List, [], ◌∷◌, ◌++◌, length, is_ok, Some, None, Ok, Err, Option, Result, ◌≢◌}
 use Rattle.std.specs.declared.alloc.AllocError.{AllocError}
 use Rattle.theory.specs.Limits.{nobody}
 use Rattle.ratchet_tree.specs.declared.member.PublicKey.{PublicKey}
+use Rattle.commits.specs.declared.change.Change.{Change}
+use Rattle.commits.specs.declared.change.Change.TheVariants as change
 use Rattle.commits.specs.declared.refusal.Refusal.{Refusal}
 use Rattle.commits.specs.declared.refusal.Refusal.TheVariants.{Malformed}
 use Rattle.wire.specs.Bytes.{be16, be32, key_bytes, Half, Whole, run_bytes}
@@ -101,15 +103,38 @@ pub record Written (m : Message) (before after : List ℕ) (r : Result (Unit {0}
   pub fits : is_ok r ≡ true → Fits m
   pub bytes : is_ok r ≡ true → after ≡ before ++ encode m
 
+-- the kind and the other member of what is asked; nobody's number for none
+abbrev pub kind_asked : Change → ℕ
+kind_asked change.Renew = 1
+kind_asked (change.Remove m) = 2
+kind_asked (change.Add m) = 3
+
+abbrev pub other_asked : Change → ℕ
+other_asked change.Renew = nobody
+other_asked (change.Remove m) = m.0
+other_asked (change.Add m) = m.0
+
+-- a kind and an other member say what is asked, or nothing
+abbrev pub Names : ℕ → ℕ → Change → Type 0
+Names k o a = (kind_asked a ≡ k) × (other_asked a ≡ o)
+
+abbrev pub NamesNone : ℕ → ℕ → Type 0
+NamesNone k o = (a : Change) → Names k o a → ⊥
+
 -- a header as it is read
 abbrev pub HeaderFits : Header → Type 0
-HeaderFits h = FitsHead h.epoch.0 h.kind h.committer.0 h.other.0
+HeaderFits h = FitsHead h.epoch.0 (kind_asked h.change) h.committer.0 (other_asked h.change)
 
 abbrev pub header_bytes : Header → List ℕ
-header_bytes h = head_bytes h.epoch.0 h.kind h.committer.0 h.other.0
+header_bytes h = head_bytes h.epoch.0 (kind_asked h.change) h.committer.0 (other_asked h.change)
 
 -- a change that has the kind and the other member of the header
 pub record ChangeOf (k o : ℕ) (c : MessageChange) : Type 0 where
   pub kind : kind_of c ≡ k
   pub other : other_of c ≡ o
   pub fits : FitsChange c
+
+-- the parts of a message, and nothing behind them
+abbrev pub Read : List ℕ → Option CommitMessage → Type 0
+Read b (Some m) = Fits (message_of m) × (b ≡ encode (message_of m))
+Read b None = (m : Message) → Fits m → b ≢ encode m

@@ -1,11 +1,24 @@
 // Reading a commit message. Everything is read to its end, or it is no message.
+ghost use Rattle.std.specs.Prelude.{◌≡◌, MatchOption};
 ghost use Rattle.wire.specs.Bytes.{Reads, ReadsAs, Whole};
-ghost use Rattle.messages.specs.Message.{ChangeOf, HeaderFits, Received, change_keys, header_bytes, keys_bytes};
+ghost use Rattle.messages.specs.Message.{ChangeOf, HeaderFits, Names, NamesNone, Read, Received, change_keys, header_bytes, keys_bytes, kind_asked, other_asked};
 
 use crate::message::{CommitMessage, Header, MessageChange};
-use commits::{Epoch, NOBODY, Refusal};
+use commits::{Change, Epoch, NOBODY, Refusal};
 use ratchet_tree::MemberId;
-use wire::{PartSize, read_key, read_run};
+use wire::{PartSize, read, read_run};
+
+// What the byte of the kind and the other member ask; a renewal names nobody.
+fn change_named(kind: u8, other: MemberId) -> Option<Change>
+    ensures { MatchOption result (NamesNone kind other.0) (Names kind other.0) }
+{
+    match kind {
+        1 if other == MemberId(NOBODY) => Some(Change::Renew),
+        2 => Some(Change::Remove(other)),
+        3 => Some(Change::Add(other)),
+        _ => None,
+    }
+}
 
 fn read_header(bytes: &[u8]) -> Option<(Header, &[u8])>
     ensures { Reads HeaderFits header_bytes bytes.now result }
@@ -13,70 +26,55 @@ fn read_header(bytes: &[u8]) -> Option<(Header, &[u8])>
     let [5, e0, e1, e2, e3, kind, c0, c1, o0, o1, rest @ ..] = bytes else {
         return None;
     };
+    let other = MemberId(u16::from_be_bytes([*o0, *o1]));
     let header = Header {
         epoch: Epoch(u32::from_be_bytes([*e0, *e1, *e2, *e3])),
-        kind: *kind,
         committer: MemberId(u16::from_be_bytes([*c0, *c1])),
-        other: MemberId(u16::from_be_bytes([*o0, *o1])),
+        change: change_named(*kind, other)?,
     };
     Some((header, rest))
 }
 
-fn read_change(kind: u8, other: MemberId, bytes: &[u8]) -> Option<(MessageChange, &[u8])>
-    ensures { Reads (ChangeOf kind other.0) change_keys bytes.now result }
+// The change with the keys that a newcomer brings.
+fn read_change(change: Change, bytes: &[u8]) -> Option<(MessageChange, &[u8])>
+    ensures { Reads (ChangeOf (kind_asked change) (other_asked change)) change_keys bytes.now result }
 {
-    match kind {
-        1 if other.0 == NOBODY => Some((MessageChange::Renew, bytes)),
-        2 => Some((MessageChange::Remove(other), bytes)),
-        3 => {
-            let Some((leaf_key, rest)) = read_key(bytes) else {
-                return None;
-            };
-            let Some((init_key, rest)) = read_key(rest) else {
-                return None;
-            };
+    match change {
+        Change::Renew => Some((MessageChange::Renew, bytes)),
+        Change::Remove(member) => Some((MessageChange::Remove(member), bytes)),
+        Change::Add(member) => {
+            let (leaf_key, rest) = read(bytes)?;
+            let (init_key, rest) = read(rest)?;
             let change = MessageChange::Add {
-                member: other,
+                member,
                 leaf_key,
                 init_key,
             };
             Some((change, rest))
         }
-        _ => None,
     }
 }
 
+// A run as `read_run` reads it, but for its count of one byte; a function for both would need a trait of counts.
 fn read_node_keys(bytes: &[u8]) -> Option<(&[u8], &[u8])>
     ensures { ReadsAs (λ x. x.now) (Whole 32 256) keys_bytes bytes.now result }
 {
-    let [count, rest @ ..] = bytes else {
-        return None;
-    };
+    let (count, rest) = bytes.split_first()?;
     rest.split_at_checked(32 * *count as usize)
 }
 
-pub fn read_message(bytes: &[u8]) -> Result<CommitMessage<'_>, Refusal>
-    ensures value { Received bytes.now result }
+fn read_parts(bytes: &[u8]) -> Option<CommitMessage<'_>>
+    ensures { Read bytes.now result }
 {
-    let Some((header, rest)) = read_header(bytes) else {
-        return Err(Refusal::Malformed);
-    };
-    let Some((change, rest)) = read_change(header.kind, header.other, rest) else {
-        return Err(Refusal::Malformed);
-    };
-    let Some((leaf_key, rest)) = read_key(rest) else {
-        return Err(Refusal::Malformed);
-    };
-    let Some((node_keys, rest)) = read_node_keys(rest) else {
-        return Err(Refusal::Malformed);
-    };
-    let Some((boxes, rest)) = read_run(rest, PartSize { bytes: 48 }) else {
-        return Err(Refusal::Malformed);
-    };
+    let (header, rest) = read_header(bytes)?;
+    let (change, rest) = read_change(header.change, rest)?;
+    let (leaf_key, rest) = read(rest)?;
+    let (node_keys, rest) = read_node_keys(rest)?;
+    let (boxes, rest) = read_run(rest, PartSize { bytes: 48 })?;
     if !rest.is_empty() {
-        return Err(Refusal::Malformed);
+        return None;
     }
-    Ok(CommitMessage {
+    Some(CommitMessage {
         epoch: header.epoch,
         committer: header.committer,
         change,
@@ -84,4 +82,10 @@ pub fn read_message(bytes: &[u8]) -> Result<CommitMessage<'_>, Refusal>
         node_keys,
         boxes,
     })
+}
+
+pub fn read_message(bytes: &[u8]) -> Result<CommitMessage<'_>, Refusal>
+    ensures value { Received bytes.now result }
+{
+    read_parts(bytes).ok_or(Refusal::Malformed)
 }

@@ -11,7 +11,7 @@ use std::alloc::Global;
 // The message that was taken; or why not, and then the handset is as it was.
 // What comes of it over every run of letters, and which talk secrets stay secret then, is `runs`.
 pub fn take<'a>(
-    heap: Global,
+    alloc: Global,
     handset: &mut Handset,
     bytes: &'a [u8],
 ) -> Result<CommitMessage<'a>, CommitError>
@@ -21,8 +21,6 @@ pub fn take<'a>(
     let Ok(message) = read_message(bytes) else {
         return Err(CommitError::Refused(Refusal::Malformed));
     };
-    match take_message(heap, handset, message) {
-        Ok(()) => Ok(message),
-        Err(error) => Err(error),
-    }
+    take_message(alloc, handset, message)?;
+    Ok(message)
 }

@@ -2,34 +2,22 @@
 ghost use Rattle.std.specs.Prelude.{◌≡◌, ◌<◌, true, is_ok, MatchBool};
 ghost use Rattle.ratchet_tree.specs.Keys.{Appends};
 ghost use Rattle.wire.specs.Bytes.{Whole};
-ghost use Rattle.messages.specs.Message.{FitsChange, HeaderFits, Sent, Written, boxes_bytes, change_keys, header_bytes, keys_bytes, kind_of, message_of, other_of};
+ghost use Rattle.messages.specs.Message.{FitsChange, HeaderFits, Names, Sent, Written, boxes_bytes, change_keys, header_bytes, keys_bytes, message_of};
 
 use crate::message::{CommitMessage, Header, MessageChange, WriteError};
-use commits::NOBODY;
+use commits::{Change, NOBODY};
 use ratchet_tree::MemberId;
 use std::alloc::AllocError;
-use wire::{write_key, write_u16};
+use wire::write;
 
-impl MessageChange {
-    fn kind(self) -> u8
-        ensures { result ≡ kind_of self }
-    {
-        match self {
-            MessageChange::Renew => 1,
-            MessageChange::Remove(_) => 2,
-            MessageChange::Add { .. } => 3,
-        }
-    }
-
-    // The member that is removed or added.
-    fn other(self) -> MemberId
-        ensures { result.0 ≡ other_of self }
-    {
-        match self {
-            MessageChange::Renew => MemberId(NOBODY),
-            MessageChange::Remove(member) => member,
-            MessageChange::Add { member, .. } => member,
-        }
+// The byte of the kind and the other member; a renewal names nobody.
+fn kind_and_other(change: Change) -> (u8, MemberId)
+    ensures { Names result.0 result.1.0 change }
+{
+    match change {
+        Change::Renew => (1, MemberId(NOBODY)),
+        Change::Remove(member) => (2, member),
+        Change::Add(member) => (3, member),
     }
 }
 
@@ -37,10 +25,11 @@ fn write_header(out: &mut Vec<u8>, header: Header) -> Result<(), AllocError>
     ensures items { Appends out.old.items (header_bytes header) out.new.items result }
     ensures fits { HeaderFits header }
 {
+    let (kind, other) = kind_and_other(header.change);
     let [e0, e1, e2, e3] = header.epoch.0.to_be_bytes();
     let [c0, c1] = header.committer.0.to_be_bytes();
-    let [o0, o1] = header.other.0.to_be_bytes();
-    out.extend_from_slice(&[5, e0, e1, e2, e3, header.kind, c0, c1, o0, o1])
+    let [o0, o1] = other.0.to_be_bytes();
+    out.extend_from_slice(&[5, e0, e1, e2, e3, kind, c0, c1, o0, o1])
 }
 
 fn write_change_keys(out: &mut Vec<u8>, change: MessageChange) -> Result<(), AllocError>
@@ -53,8 +42,8 @@ fn write_change_keys(out: &mut Vec<u8>, change: MessageChange) -> Result<(), All
         ..
     } = change
     {
-        write_key(out, leaf_key)?;
-        write_key(out, init_key)?;
+        write(out, leaf_key)?;
+        write(out, init_key)?;
     }
     Ok(())
 }
@@ -64,9 +53,10 @@ fn is_whole(bytes: &[u8], size: usize, limit: usize) -> bool
     requires { 0 < size }
     ensures { MatchBool result (Whole size limit bytes.now) (Whole size limit bytes.now → ⊥) }
 {
-    bytes.len() % size == 0 && bytes.len() / size < limit
+    bytes.len().is_multiple_of(size) && bytes.len() / size < limit
 }
 
+// The count has one byte here and two before boxes, so each writes its own.
 fn write_node_keys(out: &mut Vec<u8>, keys: &[u8]) -> Result<(), AllocError>
     requires { Whole 32 256 keys.now }
     ensures items { Appends out.old.items (keys_bytes keys.now) out.new.items result }
@@ -79,7 +69,7 @@ fn write_boxes(out: &mut Vec<u8>, boxes: &[u8]) -> Result<(), AllocError>
     requires { Whole 48 65536 boxes.now }
     ensures items { Appends out.old.items (boxes_bytes boxes.now) out.new.items result }
 {
-    write_u16(out, (boxes.len() / 48) as u16)?;
+    write(out, (boxes.len() / 48) as u16)?;
     out.extend_from_slice(boxes)
 }
 
@@ -89,13 +79,12 @@ fn append_message(out: &mut Vec<u8>, message: &CommitMessage) -> Result<(), Allo
 {
     let header = Header {
         epoch: message.epoch,
-        kind: message.change.kind(),
         committer: message.committer,
-        other: message.change.other(),
+        change: message.change.asked(),
     };
     write_header(out, header)?;
     write_change_keys(out, message.change)?;
-    write_key(out, message.leaf_key)?;
+    write(out, message.leaf_key)?;
     write_node_keys(out, message.node_keys)?;
     write_boxes(out, message.boxes)
 }
@@ -106,8 +95,5 @@ pub fn write_message(out: &mut Vec<u8>, message: &CommitMessage) -> Result<(), W
     if !is_whole(message.node_keys, 32, 256) || !is_whole(message.boxes, 48, 65536) {
         return Err(WriteError::DoesNotFit);
     }
-    match append_message(out, message) {
-        Ok(()) => Ok(()),
-        Err(_) => Err(WriteError::OutOfMemory),
-    }
+    Ok(append_message(out, message)?)
 }

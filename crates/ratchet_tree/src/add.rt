@@ -29,12 +29,8 @@ fn seat(node: &mut Node, member: MemberId, key: PublicKey)
 fn note_unmerged(node: &mut Node, member: MemberId) -> Result<(), AllocError>
     ensures { is_ok result ≡ true → parent_of node.new ≡ unmerged_at member.0 (parent_of node.old) }
 {
-    match node {
-        Node::Leaf(_) => {}
-        Node::Parent(parent) => match parent {
-            Parent::Blank => {}
-            Parent::Keyed { unmerged, .. } => unmerged.insert(0, member)?,
-        },
+    if let Node::Parent(Parent::Keyed { unmerged, .. }) = node {
+        unmerged.insert(0, member)?;
     }
     Ok(())
 }

@@ -1,45 +1,15 @@
 // Who is seated in a part, where, and how many.
-ghost use Rattle.std.specs.Prelude.{◌≡◌, not};
+ghost use Rattle.std.specs.Prelude.{◌≡◌};
 ghost use Rattle.std.specs.Option.{option_map};
-ghost use Rattle.theory.specs.Tree.{full, is_at, is_blank, members, seated};
+ghost use Rattle.theory.specs.Tree.{full, members, seated};
 ghost use Rattle.theory.specs.Tree.{position as position-of};
 ghost use Rattle.tree_math.specs.declared.index.LeafIndex.{LeafIndex as Index};
-ghost use Rattle.ratchet_tree.specs.Nodes.{leaf_of};
 ghost use Rattle.ratchet_tree.specs.Parts.{part_tree};
 
 use crate::member::MemberId;
-use crate::node::{Leaf, Node};
 use crate::part::Part;
 use crate::split::Split;
 use tree_math::LeafIndex;
-
-impl Node {
-    // Does the member sit at this node, taken as a leaf?
-    pub fn seats(&self, member: MemberId) -> bool
-        ensures { result ≡ is_at member.0 (leaf_of self.now) }
-    {
-        match self {
-            Node::Leaf(leaf) => match leaf {
-                Leaf::Occupied { member: who, .. } => who.0 == member.0,
-                Leaf::Blank => false,
-            },
-            Node::Parent(_) => false,
-        }
-    }
-
-    // Does anybody sit at this node, taken as a leaf?
-    pub fn is_occupied(&self) -> bool
-        ensures { result ≡ not (is_blank (leaf_of self.now)) }
-    {
-        match self {
-            Node::Leaf(leaf) => match leaf {
-                Leaf::Occupied { .. } => true,
-                Leaf::Blank => false,
-            },
-            Node::Parent(_) => false,
-        }
-    }
-}
 
 // Leaves stand at the even indices: these two, asked most often, go over them in a line and not by halves.
 impl<'a> Part<'a> {

@@ -1,16 +1,16 @@
 // The keys of a part: a member's leaf key, the resolution, and the node key that a member holds.
-ghost use Rattle.std.specs.Prelude.{◌≡◌, [], IfOk, if◌then◌else◌, MatchOption};
+ghost use Rattle.std.specs.Prelude.{◌≡◌, IfOk, MatchOption};
 ghost use Rattle.std.specs.Option.{option_to_list};
 ghost use Rattle.theory.specs.Held.{held_at, is_unmerged, node_key_held};
-ghost use Rattle.theory.specs.Tree.{blank_parent, is_at, key_at, leaf_key, leaf_keys};
+ghost use Rattle.theory.specs.Tree.{blank_parent, leaf_key, leaf_keys};
 ghost use Rattle.theory.specs.Tree.{resolution as resolution-of};
 ghost use Rattle.ratchet_tree.specs.Keys.{Appends, IsKeyed};
-ghost use Rattle.ratchet_tree.specs.Nodes.{leaf_of, numbers, parent_of};
+ghost use Rattle.ratchet_tree.specs.Nodes.{numbers, parent_of};
 ghost use Rattle.ratchet_tree.specs.Parts.{part_tree};
 ghost use Rattle.ratchet_tree.specs.Seats.{Seats};
 
 use crate::member::{MemberId, PublicKey};
-use crate::node::{Leaf, Node, Parent};
+use crate::node::{Node, Parent};
 use crate::part::Part;
 use crate::seats::seats_of;
 use crate::split::Split;
@@ -27,43 +27,16 @@ pub struct Keyed<'a> {
 }
 
 impl Node {
-    // The key at this node, taken as a leaf.
-    fn leaf_key(&self) -> Option<PublicKey>
-        ensures { option_to_list result ≡ key_at (leaf_of self.now) }
-    {
-        match self {
-            Node::Leaf(leaf) => match leaf {
-                Leaf::Occupied { key, .. } => Some(*key),
-                Leaf::Blank => None,
-            },
-            Node::Parent(_) => None,
-        }
-    }
-
-    // The key at this node, taken as a leaf, if the member sits there.
-    fn leaf_key_of(&self, member: MemberId) -> Option<PublicKey>
-        ensures { option_to_list result ≡ (if is_at member.0 (leaf_of self.now) then key_at (leaf_of self.now) else []) }
-    {
-        if self.seats(member) {
-            self.leaf_key()
-        } else {
-            None
-        }
-    }
-
     // The key and unmerged members of this node, taken as a parent.
     pub fn node_key(&self) -> Option<Keyed<'_>>
         ensures { MatchOption result (parent_of self.now ≡ blank_parent) (λ k. IsKeyed k (parent_of self.now)) }
     {
         match self {
-            Node::Leaf(_) => None,
-            Node::Parent(parent) => match parent {
-                Parent::Blank => None,
-                Parent::Keyed { key, unmerged } => Some(Keyed {
-                    key: *key,
-                    unmerged,
-                }),
-            },
+            Node::Parent(Parent::Keyed { key, unmerged }) => Some(Keyed {
+                key: *key,
+                unmerged,
+            }),
+            Node::Parent(Parent::Blank) | Node::Leaf(_) => None,
         }
     }
 }

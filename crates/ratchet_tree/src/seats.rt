@@ -5,7 +5,7 @@ ghost use Rattle.ratchet_tree.specs.Parts.{part_tree};
 ghost use Rattle.ratchet_tree.specs.Seats.{Noted, NotedMember, Seats};
 
 use crate::member::MemberId;
-use crate::node::{Leaf, Node};
+use crate::node::Node;
 use crate::part::Part;
 use std::alloc::{AllocError, Global};
 
@@ -36,12 +36,8 @@ fn note_leaf(seats: &mut [u16], node: &Node, leaf: u16)
     requires { leaf < 65535 }
     ensures { Noted (leaf_of node.now) leaf seats.old seats.new }
 {
-    match node {
-        Node::Leaf(place) => match place {
-            Leaf::Occupied { member, .. } => note_member(seats, *member, leaf),
-            Leaf::Blank => {}
-        },
-        Node::Parent(_) => {}
+    if let Some(occupant) = node.occupant() {
+        note_member(seats, occupant.member, leaf);
     }
 }
 

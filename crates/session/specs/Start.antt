@@ -6,8 +6,8 @@ use Rattle.commits.specs.declared.refusal.Refusal.TheVariants.{Malformed}
 use Rattle.messages.specs.declared.handset.Handset.{Handset}
 use Rattle.scripts.specs.Decimal.{ReadsNumber}
 use Rattle.tree_files.specs.Verdict.{Loaded}
-use Rattle.tree_files.specs.declared.tree_file.FileError.{FileError}
-use Rattle.tree_files.specs.declared.tree_file.FileError.TheVariants.{Refused}
+use Rattle.commits.specs.declared.error.CommitError.{CommitError as FileError}
+use Rattle.commits.specs.declared.error.CommitError.TheVariants.{Refused}
 
 -- the member's number and what the file is; a number that is none is refused by 1 before the file is looked at
 abbrev pub Started : List ℕ → List ℕ → Result Handset FileError → Type 0

@@ -1,6 +1,8 @@
 -- Tests of a tree, taken a step further.
 -- Assumes nothing.
-use Rattle.std.proofs.Common.{◌≡◌, Bool, true, false, not, ◌&&◌, List, [], ◌∷◌, length, sym, refl, ap, ◌∙◌, ap₂, arith}
+use Rattle.std.proofs.Common.{◌≡◌, Bool, true, false, not, ◌&&◌, List, [], ◌∷◌, length, sym, refl, ap, ◌∙◌, MatchOption, Option, Some, None, arith}
+use Rattle.std.specs.Bool.{IsTrue}
+use Rattle.std.specs.List.{list_all}
 use Rattle.theory.specs.Held.{is_unmerged}
 use Rattle.theory.specs.Tree.{Tree, leaf, node, Leaf, Parent, seated}
 use Rattle.theory.specs.Wellformed.{distinct, all_seated, merges, apart, consistent}
@@ -19,25 +21,27 @@ module _ (ms : List MemberId) (m : MemberId) (ns : List MemberId) (e : ms ≡ m 
   unfolding distinct
   distinct-goes h = ap (λ (l : List MemberId). distinct (numbers l)) e ∙ ap (λ (b : Bool). not b && distinct (numbers ns)) h
 
-  -- the first isn't seated, or it comes down to the others
-  pub seated-stops : (t : Tree PublicKey) → seated m.0 t ≡ false → all_seated (numbers ms) t ≡ false
-  unfolding all_seated
-  seated-stops t h = ap (λ (l : List MemberId). all_seated (numbers l) t) e ∙ ap (λ (b : Bool). b && all_seated (numbers ns) t) h
-
-  pub seated-goes : (t : Tree PublicKey) → seated m.0 t ≡ true → all_seated (numbers ms) t ≡ all_seated (numbers ns) t
-  unfolding all_seated
-  seated-goes t h = ap (λ (l : List MemberId). all_seated (numbers l) t) e ∙ ap (λ (b : Bool). b && all_seated (numbers ns) t) h
-
 -- nobody is left
 pub distinct-ends : (ms : List MemberId) → length ms ≡ 0 → distinct (numbers ms) ≡ true
 unfolding distinct
 distinct-ends [] z = refl
 distinct-ends (m ∷ ms) z = absurd (omega arith)
 
-pub seated-ends : (ms : List MemberId) (t : Tree PublicKey) → length ms ≡ 0 → all_seated (numbers ms) t ≡ true
+-- each of some members is seated
+pub seated-each : (ms : List MemberId) (t : Tree PublicKey) → list_all (λ (m : MemberId). seated m.0 t) ms ≡ all_seated (numbers ms) t
 unfolding all_seated
-seated-ends [] t z = refl
-seated-ends (m ∷ ms) t z = absurd (omega arith)
+seated-each [] t = refl
+seated-each (m ∷ ms) t = ap (λ (b : Bool). seated m.0 t && b) (seated-each ms t)
+
+-- a test that nothing passes, and something as it is told
+pub none-or : {X A : Type 0} {P Q : X → Type 0} (test : A → Bool) (blank v : A) (o : Option X) (r : Bool) → MatchOption o (v ≡ blank) Q → MatchOption o (IsTrue r) P →
+    test blank ≡ true → ((x : X) → Q x → P x → r ≡ test v) → r ≡ test v
+none-or test blank v None r e h z f = h ∙ sym z ∙ ap test (sym e)
+none-or test blank v (Some x) r e h z f = f x e h
+
+pub and-assoc : (a b c : Bool) → ((a && b) && c) ≡ (a && (b && c))
+and-assoc true b c = refl
+and-assoc false b c = refl
 
 pub consistent-leaf : (t : Tree PublicKey) (x : Leaf PublicKey) → t ≡ leaf x → consistent t ≡ true
 unfolding consistent
@@ -49,12 +53,6 @@ module _ (t : Tree PublicKey) (p : Parent PublicKey) (l r : Tree PublicKey) (e :
   unfolding consistent
   consistent-node = ap consistent e ∙ ap (λ (u : Tree PublicKey). (apart l r && merges p u) && (consistent l && consistent r)) (sym e)
 
-  pub halves-meet : apart l r ≡ false → consistent t ≡ false
-  halves-meet a = consistent-node ∙ ap (λ (b : Bool). (b && merges p t) && (consistent l && consistent r)) a
-
-  module _ (a : apart l r ≡ true) where
-    pub parent-fails : merges p t ≡ false → consistent t ≡ false
-    parent-fails m = consistent-node ∙ ap₂ (λ (b c : Bool). (b && c) && (consistent l && consistent r)) a m
-
-    pub parent-holds : merges p t ≡ true → consistent t ≡ (consistent l && consistent r)
-    parent-holds m = consistent-node ∙ ap₂ (λ (b c : Bool). (b && c) && (consistent l && consistent r)) a m
+  -- the four tests in their order
+  pub consistent-parts : consistent t ≡ (((apart l r && merges p t) && consistent l) && consistent r)
+  consistent-parts = consistent-node ∙ sym (and-assoc (apart l r && merges p t) (consistent l) (consistent r))

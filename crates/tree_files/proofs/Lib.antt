@@ -1,4 +1,3 @@
-mod Members
 mod Judging
 mod Verdicts
 mod Writing

@@ -6,16 +6,25 @@ use Rattle.theory.specs.Tree.{Tree}
 use Rattle.theory.specs.Wellformed.{well_formed}
 use Rattle.theory.proofs.Tests.{decided, is_true, is_false}
 use Rattle.ratchet_tree.specs.declared.member.PublicKey.{PublicKey}
-use Rattle.tree_files.specs.Verdict.{File, Fits, bytes_of, file_of, Written, IsFile, file_refusal}
+use Rattle.tree_files.specs.Verdict.{File, Fits, bytes_of, file_of, Written, IsFile, file_refusal, Loaded}
 use Rattle.tree_files.specs.Write.{Filed}
 use Rattle.tree_files.specs.Laws.{FilePrecedence, FileRoundTrip, Kept}
-use Rattle.tree_files.specs.declared.tree_file.FileError.TheVariants as file-error
-use Rattle.tree_files.specs.declared.tree_file.WriteError.{WriteError}
-use Rattle.tree_files.specs.declared.tree_file.WriteError.TheVariants as write-error
+use Rattle.commits.specs.declared.error.CommitError.TheVariants as file-error
+use Rattle.messages.specs.declared.message.WriteError.{WriteError}
+use Rattle.messages.specs.declared.message.WriteError.TheVariants as write-error
+use Rattle.messages.specs.Errors.{unparsed}
+use Rattle.messages.specs.TreeFile.{Parsed}
+use Rattle.messages.specs.declared.tree_file.FileError.{FileError}
+use Rattle.messages.specs.declared.tree_file.FileError.TheVariants as parse-error
 use Rattle.messages.proofs.Filing.{one-tree}
 
 pub breaks-a-rule : (f : File) → well_formed f.tree ≡ false → file_refusal (Some f) ≡ Some 8
 breaks-a-rule f h = ap (λ (b : Bool). first_of (not b) 8 None) h
+
+-- bytes that are no tree's, or no memory
+pub not-loaded : (b : List ℕ) (e : FileError) → Parsed b (Err e) → Loaded b (Err (unparsed e))
+not-loaded b parse-error.Malformed none = (None, (λ f w. none f.epoch f.depth f.tree w.0 w.1), refl)
+not-loaded b parse-error.OutOfMemory none = tt
 
 keeps-the-rules : (f : File) → well_formed f.tree ≡ true → file_refusal (Some f) ≡ None
 keeps-the-rules f h = ap (λ (b : Bool). first_of (not b) 8 None) h

@@ -1,6 +1,6 @@
 -- Nodes appended one after the other, and whether they can be.
 -- Assumes nothing.
-use Rattle.std.proofs.Common.{◌≡◌, ℕ, zero, suc, ◌<◌, ◌≤◌, Bool, true, false, ◌&&◌, ltb, List, [], ◌∷◌, ◌++◌, length, Result, sym, refl, ap, ◌∙◌, subst, ap₂, arith}
+use Rattle.std.proofs.Common.{◌≡◌, ℕ, zero, suc, ◌<◌, ◌≤◌, Bool, true, false, ◌&&◌, ltb, List, [], ◌∷◌, ◌++◌, length, Ok, Err, Result, is_ok, OnOk, true≢false, sym, refl, ap, ◌∙◌, subst, ap₂, arith}
 use Rattle.std.proofs.lemmas.List.{length-map}
 use Rattle.std.proofs.lemmas.Bool.{and_parts, ltb-true, lt-ltb, both_ways}
 use Rattle.theory.specs.Limits.{max_depth}
@@ -15,6 +15,12 @@ use Rattle.ratchet_tree.proofs.Counts.{height-is}
 use Rattle.wire.specs.Bytes.{be16, key_bytes, Half}
 use Rattle.messages.specs.TreeFile.{leaf_bytes, parent_bytes, members_bytes, nodes_bytes, file_head, encode_tree, FitsLeaf, FitsParent, FitsMembers, FitsPart, FitsTree}
 use Rattle.tree_files.specs.Write.{countable_at, countable}
+use Rattle.tree_files.proofs.Judging.{and-assoc}
+
+-- what holds where an append went well
+pub at-ok : {T E : Type 0} {P : Type 0} (r : Result T E) → is_ok r ≡ true → OnOk r P → P
+at-ok (Ok x) k f = f
+at-ok (Err x) k f = absurd (true≢false (sym k))
 
 numbers-length : (ms : List MemberId) → length (numbers ms) ≡ length ms
 numbers-length ms = length-map ms (λ (m : MemberId). m.0)
@@ -37,11 +43,9 @@ module _ (t : Tree PublicKey) (p : Parent PublicKey) (l r : Tree PublicKey) (e :
   unfolding countable
   countable-node = ap countable e
 
-  pub parent-uncountable : countable_at p ≡ false → countable t ≡ false
-  parent-uncountable h = countable-node ∙ ap (λ (b : Bool). b && (countable l && countable r)) h
-
-  pub parent-countable : countable_at p ≡ true → countable t ≡ (countable l && countable r)
-  parent-countable h = countable-node ∙ ap (λ (b : Bool). b && (countable l && countable r)) h
+  -- the three tests in their order
+  pub countable-halves : countable t ≡ ((countable_at p && countable l) && countable r)
+  countable-halves = countable-node ∙ sym (and-assoc (countable_at p) (countable l) (countable r))
 
   pub countable-parts : countable t ≡ true → (countable_at p ≡ true) × (countable l ≡ true) × (countable r ≡ true)
   countable-parts h =

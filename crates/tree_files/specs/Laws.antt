@@ -15,10 +15,10 @@ use Rattle.commits.specs.declared.change.Epoch.{Epoch}
 use Rattle.wire.specs.Bytes.{Half}
 use Rattle.tree_files.specs.Verdict.{File, Fits, bytes_of, file_of, Written, IsFile, file_refusal, Loaded}
 use Rattle.tree_files.specs.Write.{Filed}
-use Rattle.tree_files.specs.declared.tree_file.FileError.{FileError}
-use Rattle.tree_files.specs.declared.tree_file.FileError.TheVariants as file-error
-use Rattle.tree_files.specs.declared.tree_file.WriteError.{WriteError}
-use Rattle.tree_files.specs.declared.tree_file.WriteError.TheVariants as write-error
+use Rattle.commits.specs.declared.error.CommitError.{CommitError}
+use Rattle.commits.specs.declared.error.CommitError.TheVariants as file-error
+use Rattle.messages.specs.declared.message.WriteError.{WriteError}
+use Rattle.messages.specs.declared.message.WriteError.TheVariants as write-error
 
 -- what a verdict says of the bytes
 pub record FileVerdict (b : List ℕ) (v : Option ℕ) : Type 0 where
@@ -35,7 +35,7 @@ FilePrecedence = (b : List ℕ) (o : Option File) → IsFile b o → FileVerdict
 -- whatever answer is right of the file's bytes is that file, unless there was no memory
 abbrev pub ReadBack : File → Type 0
 ReadBack f =
-    (r : Result (Epoch × RatchetTree) FileError) → Loaded (bytes_of f) r →
+    (r : Result (Epoch × RatchetTree) CommitError) → Loaded (bytes_of f) r →
     (r ≡ Err file-error.OutOfMemory) ⊎ ((p : Epoch × RatchetTree) × (r ≡ Ok p) × (file_of p ≡ f))
 
 abbrev pub FileRoundTrip : Type 0

@@ -13,8 +13,8 @@ use Rattle.ratchet_tree.specs.declared.tree.RatchetTree.{RatchetTree}
 use Rattle.commits.specs.Refusals.{number_of}
 use Rattle.commits.specs.declared.change.Epoch.{Epoch}
 use Rattle.messages.specs.TreeFile.{FitsTree, encode_tree}
-use Rattle.tree_files.specs.declared.tree_file.FileError.{FileError}
-use Rattle.tree_files.specs.declared.tree_file.FileError.TheVariants.{Refused, OutOfMemory}
+use Rattle.commits.specs.declared.error.CommitError.{CommitError}
+use Rattle.commits.specs.declared.error.CommitError.TheVariants.{Refused, OutOfMemory}
 
 pub record File : Type 0 where
   pub epoch : ℕ
@@ -45,7 +45,7 @@ file_refusal None = Some 1
 file_refusal (Some f) = first_of (not (well_formed f.tree)) 8 None
 
 -- the file and that no cause applies; or the number of the first that does
-abbrev pub Loaded : List ℕ → Result (Epoch × RatchetTree) FileError → Type 0
+abbrev pub Loaded : List ℕ → Result (Epoch × RatchetTree) CommitError → Type 0
 Loaded b (Ok p) = IsFile b (Some (file_of p)) × (file_refusal (Some (file_of p)) ≡ None)
 Loaded b (Err (Refused x)) = (o : Option File) × IsFile b o × (file_refusal o ≡ Some (number_of x))
 Loaded b (Err OutOfMemory) = Unit {0}

@@ -5,8 +5,8 @@ use Rattle.std.specs.Prelude.{◌≡◌, ℕ, Bool, true, ◌&&◌, List, ◌++�
 use Rattle.theory.specs.Tree.{Tree, leaf, node, Parent, blank_parent, keyed}
 use Rattle.ratchet_tree.specs.declared.member.PublicKey.{PublicKey}
 use Rattle.tree_files.specs.Verdict.{File, Fits, bytes_of}
-use Rattle.tree_files.specs.declared.tree_file.WriteError.{WriteError}
-use Rattle.tree_files.specs.declared.tree_file.WriteError.TheVariants.{DoesNotFit, OutOfMemory}
+use Rattle.messages.specs.declared.message.WriteError.{WriteError}
+use Rattle.messages.specs.declared.message.WriteError.TheVariants.{DoesNotFit, OutOfMemory}
 
 abbrev pub countable_at : Parent PublicKey → Bool
 countable_at blank_parent = true

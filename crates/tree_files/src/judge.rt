@@ -7,31 +7,24 @@ ghost use Rattle.ratchet_tree.specs.Parts.{part_tree};
 ghost use Rattle.ratchet_tree.specs.Trees.{the_tree};
 
 use commits::NOBODY;
-use ratchet_tree::{Leaf, MemberId, Node, Part, RatchetTree, Split, is_among};
+use ratchet_tree::{MemberId, Node, Part, RatchetTree, Split, is_among};
 
 // Has whoever sits at this leaf a member's number?
 fn is_leaf_numbered(node: &Node) -> bool
     ensures { result ≡ leaf_numbered (leaf_of node.now) }
 {
-    match node {
-        Node::Leaf(leaf) => match leaf {
-            Leaf::Occupied { member, .. } => member.0 < NOBODY,
-            Leaf::Blank => true,
-        },
-        Node::Parent(_) => true,
-    }
+    node.occupant()
+        .is_none_or(|occupant| occupant.member != MemberId(NOBODY))
 }
 
 // Does nobody sit both at this leaf and in the part?
 fn is_leaf_apart(node: &Node, part: Part) -> bool
     ensures { result ≡ leaf_apart (leaf_of node.now) (part_tree part.entry) }
 {
-    match node {
-        Node::Leaf(leaf) => match leaf {
-            Leaf::Occupied { member, .. } => !part.is_seated(*member),
-            Leaf::Blank => true,
-        },
-        Node::Parent(_) => true,
+    // No `is_none_or`: of a closure that takes an occupant and asks a part, the check learns nothing.
+    match node.occupant() {
+        Some(occupant) => !part.is_seated(occupant.member),
+        None => true,
     }
 }
 
@@ -39,42 +32,29 @@ fn is_leaf_apart(node: &Node, part: Part) -> bool
 fn is_leaf_merged(node: &Node, unmerged: &[MemberId]) -> bool
     ensures { result ≡ leaf_merged (numbers unmerged.now) (leaf_of node.now) }
 {
-    match node {
-        Node::Leaf(leaf) => match leaf {
-            Leaf::Occupied { member, .. } => !is_among(unmerged, *member),
-            Leaf::Blank => false,
-        },
-        Node::Parent(_) => false,
-    }
+    node.occupant()
+        .is_some_and(|occupant| !is_among(unmerged, occupant.member))
 }
 
 // Is nobody named twice?
 fn is_distinct(members: &[MemberId]) -> bool
     ensures { result ≡ distinct (numbers members.now) }
 {
-    let mut rest = members;
-    while let Some((first, behind)) = rest.split_first() {
-        if is_among(behind, *first) {
-            return false;
-        }
-        rest = behind;
+    match members.split_first() {
+        Some((first, others)) => !is_among(others, *first) && is_distinct(others),
+        None => true,
     }
-    true
 }
 
 // Is everybody named seated in the part?
 fn are_seated(members: &[MemberId], part: Part) -> bool
     ensures { result ≡ all_seated (numbers members.now) (part_tree part.entry) }
 {
-    let mut rest = members;
-    while let Some((first, behind)) = rest.split_first() {
-        if !part.is_seated(*first) {
-            return false;
-        }
-        rest = behind;
-    }
-    true
+    members.iter().all(|member| part.is_seated(*member))
 }
+
+// The three walks below go over leaves, each with a test and an `&&` or `||` of its own: a walk for all would take both as
+// closures, and say of them what each line here says by itself.
 
 // Is somebody seated in the part who isn't unmerged?
 fn has_merged(part: Part, unmerged: &[MemberId]) -> bool
@@ -87,7 +67,8 @@ fn has_merged(part: Part, unmerged: &[MemberId]) -> bool
 }
 
 // Are the unmerged members of this parent named once, seated in the part below, and not all who are?
-// Who isn't seated is looked for first: of more names than the part has leaves, two of the first are then the same.
+// Who isn't seated is looked for first: of more names than the part has leaves, two of the first are then the same,
+// so that the look for names that stand twice goes no deeper.
 fn is_merging(node: &Node, part: Part) -> bool
     ensures { result ≡ merges (parent_of node.now) (part_tree part.entry) }
 {
@@ -126,13 +107,10 @@ fn is_consistent(part: Part) -> bool
     match part.split() {
         Split::Leaf(_) => true,
         Split::Parent(left, node, right) => {
-            if !are_apart(left, right) {
-                return false;
-            }
-            if !is_merging(node, part) {
-                return false;
-            }
-            is_consistent(left) && is_consistent(right)
+            are_apart(left, right)
+                && is_merging(node, part)
+                && is_consistent(left)
+                && is_consistent(right)
         }
     }
 }

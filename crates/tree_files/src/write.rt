@@ -6,47 +6,33 @@ ghost use Rattle.ratchet_tree.specs.Keys.{Appends};
 ghost use Rattle.ratchet_tree.specs.Nodes.{leaf_of, numbers, parent_of};
 ghost use Rattle.ratchet_tree.specs.Parts.{part_tree};
 ghost use Rattle.ratchet_tree.specs.Trees.{the_tree};
-ghost use Rattle.messages.specs.TreeFile.{FitsFile, FitsLeaf, FitsMembers, FitsParent, FitsPart, FitsTree, encode_tree, file_head_bytes, leaf_bytes, members_bytes, nodes_bytes, parent_bytes};
+ghost use Rattle.messages.specs.TreeFile.{FitsFile, FitsLeaf, FitsParent, FitsPart, FitsTree, encode_tree, file_head_bytes, leaf_bytes, nodes_bytes, parent_bytes};
 ghost use Rattle.tree_files.specs.Verdict.{file_of};
 ghost use Rattle.tree_files.specs.Write.{Filed, countable, countable_at};
 
-use crate::tree_file::WriteError;
 use commits::Epoch;
-use messages::FileHeader;
-use ratchet_tree::{Keyed, Leaf, MemberId, Node, Part, PublicKey, RatchetTree, Split};
+use messages::{FileHeader, WriteError};
+use ratchet_tree::{Keyed, Node, Occupant, Part, RatchetTree, Split};
 use std::alloc::AllocError;
-use wire::{write_key, write_u16};
+use wire::{write, write_all};
 
-fn write_occupied(out: &mut Vec<u8>, member: MemberId, key: PublicKey) -> Result<(), AllocError>
-    ensures items { Appends out.old.items (leaf_bytes (occupied member.0 key)) out.new.items result }
-    ensures fits { is_ok result ≡ true → FitsLeaf (occupied member.0 key) }
+fn write_occupied(out: &mut Vec<u8>, occupant: Occupant) -> Result<(), AllocError>
+    ensures items { Appends out.old.items (leaf_bytes (occupied occupant.member.0 occupant.key)) out.new.items result }
+    ensures fits { is_ok result ≡ true → FitsLeaf (occupied occupant.member.0 occupant.key) }
 {
-    out.extend_from_slice(&[1])?;
-    write_u16(out, member.0)?;
-    write_key(out, key)
+    out.push(1)?;
+    write(out, occupant.member)?;
+    write(out, occupant.key)
 }
 
 fn write_leaf(out: &mut Vec<u8>, node: &Node) -> Result<(), AllocError>
     ensures items { Appends out.old.items (leaf_bytes (leaf_of node.now)) out.new.items result }
     ensures fits { is_ok result ≡ true → FitsLeaf (leaf_of node.now) }
 {
-    match node {
-        Node::Leaf(leaf) => match leaf {
-            Leaf::Blank => out.extend_from_slice(&[0]),
-            Leaf::Occupied { member, key } => write_occupied(out, *member, *key),
-        },
-        Node::Parent(_) => out.extend_from_slice(&[0]),
+    match node.occupant() {
+        Some(occupant) => write_occupied(out, occupant),
+        None => Ok(out.push(0)?),
     }
-}
-
-fn write_members(out: &mut Vec<u8>, members: &[MemberId]) -> Result<(), AllocError>
-    ensures items { Appends out.old.items (members_bytes (numbers members.now)) out.new.items result }
-    ensures fits { is_ok result ≡ true → FitsMembers (numbers members.now) }
-{
-    for member in members {
-        write_u16(out, member.0)?;
-    }
-    Ok(())
 }
 
 fn write_keyed(out: &mut Vec<u8>, node_key: Keyed) -> Result<(), AllocError>
@@ -54,10 +40,10 @@ fn write_keyed(out: &mut Vec<u8>, node_key: Keyed) -> Result<(), AllocError>
     ensures items { Appends out.old.items (parent_bytes (keyed node_key.entry.key (numbers node_key.entry.unmerged.now))) out.new.items result }
     ensures fits { is_ok result ≡ true → FitsParent (keyed node_key.entry.key (numbers node_key.entry.unmerged.now)) }
 {
-    out.extend_from_slice(&[1])?;
-    write_key(out, node_key.key)?;
-    write_u16(out, node_key.unmerged.len() as u16)?;
-    write_members(out, node_key.unmerged)
+    out.push(1)?;
+    write(out, node_key.key)?;
+    write(out, node_key.unmerged.len() as u16)?;
+    write_all(out, node_key.unmerged)
 }
 
 fn write_parent(out: &mut Vec<u8>, node: &Node) -> Result<(), AllocError>
@@ -66,8 +52,8 @@ fn write_parent(out: &mut Vec<u8>, node: &Node) -> Result<(), AllocError>
     ensures fits { is_ok result ≡ true → FitsParent (parent_of node.now) }
 {
     match node.node_key() {
-        None => out.extend_from_slice(&[0]),
         Some(node_key) => write_keyed(out, node_key),
+        None => out.extend_from_slice(&[0]),
     }
 }
 
@@ -75,10 +61,8 @@ fn write_parent(out: &mut Vec<u8>, node: &Node) -> Result<(), AllocError>
 fn is_countable_at(node: &Node) -> bool
     ensures { result ≡ countable_at (parent_of node.now) }
 {
-    match node.node_key() {
-        None => true,
-        Some(node_key) => node_key.unmerged.len() < 65536,
-    }
+    node.node_key()
+        .is_none_or(|node_key| node_key.unmerged.len() < 65536)
 }
 
 fn is_countable(part: Part) -> bool
@@ -87,10 +71,7 @@ fn is_countable(part: Part) -> bool
     match part.split() {
         Split::Leaf(_) => true,
         Split::Parent(left, node, right) => {
-            if !is_countable_at(node) {
-                return false;
-            }
-            is_countable(left) && is_countable(right)
+            is_countable_at(node) && is_countable(left) && is_countable(right)
         }
     }
 }
@@ -139,8 +120,5 @@ pub fn write_tree(out: &mut Vec<u8>, epoch: Epoch, tree: &RatchetTree) -> Result
     if !is_countable(tree.as_part()) {
         return Err(WriteError::DoesNotFit);
     }
-    match append_tree(out, epoch, tree) {
-        Ok(()) => Ok(()),
-        Err(_) => Err(WriteError::OutOfMemory),
-    }
+    Ok(append_tree(out, epoch, tree)?)
 }

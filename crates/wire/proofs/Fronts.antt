@@ -11,9 +11,6 @@ one_more b i ys h e = drop_more b i 0 h ∙ ap (λ l. get_or b i 0 ∷ l) e
 pub front-1 : (b : List ℕ) → 1 ≤ length b → b ≡ get_or b 0 0 ∷ take (length b - 1) (drop 1 b)
 front-1 b h = one_more b 0 _ (omega arith) (sym (take_rest b 1))
 
-pub front-2 : (b : List ℕ) → 2 ≤ length b → b ≡ get_or b 0 0 ∷ get_or b 1 0 ∷ take (length b - 2) (drop 2 b)
-front-2 b h = one_more b 0 _ (omega arith) (one_more b 1 _ (omega arith) (sym (take_rest b 2)))
-
 pub front-6 : (b : List ℕ) → 6 ≤ length b →
     b ≡ get_or b 0 0 ∷ get_or b 1 0 ∷ get_or b 2 0 ∷ get_or b 3 0 ∷ get_or b 4 0 ∷ get_or b 5 0 ∷ take (length b - 6) (drop 6 b)
 front-6 b h =
@@ -61,7 +58,3 @@ cut_at b p q n h e f =
 -- nothing of n bytes stands at the front of fewer
 pub too_short : (b a rest : List ℕ) (n : ℕ) → length b < n → length a ≡ n → b ≡ a ++ rest → ⊥
 too_short b a rest n h l e = omega (arith, ap length e ∙ length-append a rest)
-
-pub read-16 : (b : List ℕ) (n : ℕ) → 2 ≤ length b → n ≡ get_or b 0 0 * 256 + get_or b 1 0 → get_or b 0 0 < 256 → get_or b 1 0 < 256 →
-    b ≡ be16 n ++ take (length b - 2) (drop 2 b)
-read-16 b n h e x y = front-2 b h ∙ ap (λ (l : List ℕ). l ++ take (length b - 2) (drop 2 b)) (sym (be16-from n (get_or b 0 0) (get_or b 1 0) e x y))

@@ -1,3 +1,4 @@
 pub mod Fronts
 pub mod Peeling
 pub mod Appending
+pub mod Chunks

@@ -3,7 +3,7 @@
 -- `Reads`: what a reader finds at the front of some bytes, or that it isn't there; `ReadsAs`: the same of a value that is seen another way.
 -- Assumes nothing.
 use Rattle.std.specs.Borrow.{Bor}
-use Rattle.std.specs.Prelude.{◌≡◌, ℕ, ◌*◌, ◌/◌, ◌%◌, ◌<◌, List, [], ◌∷◌, ◌++◌, length, Some, None, Option, ◌≢◌}
+use Rattle.std.specs.Prelude.{◌≡◌, ℕ, ◌*◌, ◌/◌, ◌%◌, ◌<◌, List, [], ◌∷◌, ◌++◌, length, Some, None, Option, ◌≢◌, All, flat_map}
 use Rattle.ratchet_tree.specs.declared.member.PublicKey.{PublicKey}
 
 abbrev pub be16 : ℕ → List ℕ
@@ -35,3 +35,10 @@ ReadsAs view Fits enc b (Some p) = Fits (view p.0) × (b ≡ enc (view p.0) ++ p
 
 abbrev pub Reads : {X : Type 0} → (X → Type 0) → (X → List ℕ) → List ℕ → Option (X × Bor (List ℕ)) → Type 0
 Reads Fits enc b r = ReadsAs (λ x. x) Fits enc b r
+
+-- the values that stand one after the other in some bytes; what is left is shorter than one
+pub record Holds {X : Type 0} (Fits : X → Type 0) (enc : X → List ℕ) (width : ℕ) (xs : List X) (b : List ℕ) : Type 0 where
+  pub left : List ℕ
+  pub bytes : b ≡ flat_map enc xs ++ left
+  pub short : length left < width
+  pub fits : All Fits xs

@@ -1,6 +1,8 @@
-// Numbers, keys and runs of parts at the front of some bytes, and appended to some.
+// Values and runs of parts at the front of some bytes, and values appended to some.
 #![tactic(auto)]
 
-mod bytes;
+mod encode;
+mod run;
 
-pub use bytes::{PartSize, read_key, read_run, read_u16, write_key, write_u16};
+pub use encode::{Encode, read, read_all, write, write_all};
+pub use run::{PartSize, read_run};

@@ -8,5 +8,5 @@ returns-in_err-asked c =
     record {
       tree =
           stopped c.args.tree.now.depth (vec_items c.args.tree.now.nodes) c.args.epoch.0 (commit_of c.args.commit) c.args.newcomer c.in_err-asked.field-0.0
-          c.from_residual.result (sym c.in_default.ensures.number) c.in_err-asked.ensures c.from_residual.ensures.1;
+          c.from_residual-in_err-asked.result (sym c.in_ok-allow.ensures) c.in_err-asked.ensures c.from_residual-in_err-asked.ensures.1;
     }

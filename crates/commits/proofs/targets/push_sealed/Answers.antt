@@ -1,17 +1,13 @@
-use Rattle.std.proofs.Common.{◌++◌, map, vec_items, refl, ap, ◌∙◌}
-use Rattle.std.proofs.lemmas.List.{take_all}
-use Rattle.theory.specs.Path.{sealed_to}
-use Rattle.commits.specs.Targets.{target_of}
-use Rattle.commits.proofs.Sealing.{sealed-more}
+use Rattle.std.proofs.Common.{rules, vec_items}
+use Rattle.std.proofs.lemmas.Iterator.Consumers.{YieldsList-at}
+use Rattle.std.proofs.lemmas.Iterator.{YieldsList-from_map, YieldsList-from_slice}
+use Rattle.std.proofs.lemmas.Iterator.Adapters.{items_from_extend}
+use Rattle.commits.proofs.Sealing.{sealed-keys, target_at}
 use Rattle.commits.proofs.targets.push_sealed.Goals as goal
-
-pub loop-key-preserved : goal.loop-key-preserved
-loop-key-preserved c =
-    sealed-more (map target_of (vec_items c.args.out.now)) (vec_items c.loop-key.out) (vec_items c.push.new.self) c.args.keys.now _ c.loop-key.key-index c.args.level _
-    c.in_ok-push.ensures.items c.loop-key.invariant refl c.loop-key-test.true
 
 pub returns : goal.returns
 returns c =
-    record {
-      items = λ _. c.loop-key.invariant ∙ ap (λ l. map target_of (vec_items c.args.out.now) ++ sealed_to c.args.level l) (take_all c.loop-key.key-index c.args.keys.now c.loop-key-test.false);
-    }
+    sealed-keys _ c.args.level c.args.keys.now (vec_items c.args.out.now) (vec_items c.extend.new.self) c.extend.result
+    (items_from_extend c.extend.result c.extend.ensures.ran
+    (YieldsList-from_map _ (target_at c.args.level) (YieldsList-at c.map.ensures.source (YieldsList-from_slice c.args.keys.now cc)) c.map.ensures.closure (λ x r q k. search rules)))
+    (λ h. h.0)

@@ -8,6 +8,6 @@ pub returns : goal.returns
 returns c =
     record {
       items =
-          appends-two (vec_items c.args.out.now) (be16 (length c.args.boxes.now / 48)) (c.in_ok-write_u16.ensures.items.items refl)
+          appends-two (vec_items c.args.out.now) (be16 (length c.args.boxes.now / 48)) (c.in_ok-write.ensures.items.items refl)
           (appends-slice c.extend_from_slice.ensures.items);
     }

@@ -1,17 +1,13 @@
-use Rattle.std.proofs.Common.{sym, ◌∙◌}
+use Rattle.std.proofs.Common.{◌∙◌, rules, tests}
+use Rattle.std.proofs.lemmas.Iterator.{YieldsList-from_slice}
+use Rattle.std.proofs.lemmas.Iterator.Search.{all_from_yields_List}
+use Rattle.theory.specs.Tree.{seated}
 use Rattle.ratchet_tree.specs.Parts.{part_tree}
-use Rattle.tree_files.proofs.Judging.{seated-stops, seated-goes, seated-ends}
+use Rattle.ratchet_tree.specs.declared.member.MemberId.{MemberId}
+use Rattle.tree_files.proofs.Judging.{seated-each}
 use Rattle.tree_files.proofs.judge.are_seated.Goals as goal
 
-pub returns-then-not-is_seated : goal.returns-then-not-is_seated
-returns-then-not-is_seated c =
-    sym (c.loop-first.invariant
-    ∙ seated-stops c.loop-first.rest.now c.in-Some.first.now c.in-Some.behind.now c.in-Some.ensures.cases.0 (part_tree c.args.part) (sym c.is_seated.ensures ∙ c.if-not-is_seated.true))
-
-pub loop-first-preserved : goal.loop-first-preserved
-loop-first-preserved c =
-    c.loop-first.invariant
-    ∙ seated-goes c.loop-first.rest.now c.in-Some.first.now c.in-Some.behind.now c.in-Some.ensures.cases.0 (part_tree c.args.part) (sym c.is_seated.ensures ∙ c.if-not-is_seated.false)
-
 pub returns : goal.returns
-returns c = sym (c.loop-first.invariant ∙ seated-ends c.loop-first.rest.now (part_tree c.args.part) c.in_default.ensures.cases)
+returns c =
+    all_from_yields_List (λ (m : MemberId). seated m.0 (part_tree c.args.part)) _ _ c.all.result c.all.ensures.ran (YieldsList-from_slice c.args.members.now cc) (λ x b q k. search (rules, tests))
+    ∙ seated-each c.args.members.now (part_tree c.args.part)

@@ -7,7 +7,7 @@ pub returns : goal.returns
 returns c =
     record {
       items =
-          appends-two (vec_items c.args.out.now) (1 ∷ []) c.in_ok-extend_from_slice.ensures.items
-          (appends-two (vec_items c.extend_from_slice.new.self) (be16 c.args.member.0) (c.in_ok-write_u16.ensures.items.items refl) c.write_key.ensures.items);
-      fits = λ _. (c.in_ok-write_u16.ensures.fits, c.write_key.ensures.fits);
+          appends-two (vec_items c.args.out.now) (1 ∷ []) c.in_ok-push.ensures.items
+          (appends-two (vec_items c.push.new.self) (be16 c.args.occupant.member.0) (c.in_ok-write.ensures.items.items refl) c.write-2.ensures.items);
+      fits = λ _. (c.in_ok-write.ensures.fits, c.write-2.ensures.fits);
     }
