@@ -17,7 +17,7 @@ use Rattle.orders.specs.declared.order.Order as order
 use Rattle.orders.proofs.Capping.{capped-then, plain-passed}
 use Rattle.orders.proofs.Halves.{either_side, parent-height}
 use Rattle.orders.specs.Sides.{SidesOf}
-use Rattle.orders.specs.declared.sides.Sides.{Sides}
+use Rattle.ratchet_tree.specs.declared.sides.Sides.{Sides}
 use Rattle.ratchet_tree.specs.Nodes.{parent_of}
 use Rattle.ratchet_tree.specs.Parts.{Halves, part_tree}
 use Rattle.ratchet_tree.specs.declared.node.Node.{Node}

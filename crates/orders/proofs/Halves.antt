@@ -15,7 +15,7 @@ use Rattle.commits.proofs.Counting.{levels-bound}
 use Rattle.orders.specs.Given.{GivesTo, Risen}
 use Rattle.orders.specs.Sides.{SidesOf}
 use Rattle.orders.specs.declared.order.Order.{Order}
-use Rattle.orders.specs.declared.sides.Sides.{Sides}
+use Rattle.ratchet_tree.specs.declared.sides.Sides.{Sides}
 use Rattle.orders.proofs.Giving.{gives-above}
 use Rattle.vault_theory.specs.Order as theory
 

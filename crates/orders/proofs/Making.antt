@@ -14,7 +14,7 @@ use Rattle.orders.specs.Order.{order_of}
 use Rattle.orders.specs.declared.order.Order.{Order}
 use Rattle.orders.proofs.Giving.{gives_as, gives-behind}
 use Rattle.orders.proofs.Halves.{either_side, parent-height}
-use Rattle.orders.specs.declared.sides.Sides.{Sides}
+use Rattle.ratchet_tree.specs.declared.sides.Sides.{Sides}
 use Rattle.ratchet_tree.specs.Nodes.{parent_of}
 use Rattle.ratchet_tree.specs.Parts.{Halves, part_tree}
 use Rattle.ratchet_tree.specs.declared.node.Node.{Node}

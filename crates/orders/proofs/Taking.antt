@@ -13,7 +13,7 @@ use Rattle.ratchet_tree.specs.declared.node.Node.{Node}
 use Rattle.ratchet_tree.specs.declared.part.Part.{Part}
 use Rattle.orders.specs.Sides.{SidesOf}
 use Rattle.orders.specs.Taken.{taken}
-use Rattle.orders.specs.declared.sides.Sides.{Sides}
+use Rattle.ratchet_tree.specs.declared.sides.Sides.{Sides}
 use Rattle.orders.proofs.Halves.{one_side, parent-height}
 
 pub taken-leaf : {K : Type 0} (w : ℕ) (test : Tree K → Bool) (t : Tree K) (x : Leaf K) → t ≡ leaf x → [] ≡ taken w test t

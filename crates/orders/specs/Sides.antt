@@ -5,7 +5,7 @@ use Rattle.std.specs.Prelude.{◌≡◌, ℕ, cond}
 use Rattle.theory.specs.Tree.{seated}
 use Rattle.ratchet_tree.specs.Parts.{part_tree}
 use Rattle.ratchet_tree.specs.declared.part.Part.{Part}
-use Rattle.orders.specs.declared.sides.Sides.{Sides}
+use Rattle.ratchet_tree.specs.declared.sides.Sides.{Sides}
 
 pub record SidesOf (w : ℕ) (l r : Part) (s : Sides) : Type 0 where
   pub own : part_tree s.own ≡ cond (seated w (part_tree l)) (part_tree l) (part_tree r)

@@ -3,26 +3,15 @@ ghost use Rattle.std.specs.Prelude.{◌≡◌};
 ghost use Rattle.theory.specs.Group.{readied as readied-of};
 ghost use Rattle.theory.specs.Tree.{Tree};
 ghost use Rattle.ratchet_tree.specs.declared.member.PublicKey.{PublicKey as Key};
-ghost use Rattle.commits.specs.Commits.{change_of as change_meant};
 ghost use Rattle.messages.specs.Take.{change_asked, fresh_in};
 ghost use Rattle.orders.specs.Answered.{Commits};
 
 use crate::order::Order;
 use crate::view::CommitView;
-use commits::{Change, Commit, CommitError, ready};
+use commits::{Commit, CommitError, ready};
 use messages::{Handset, MessageChange};
 use ratchet_tree::PublicKey;
 use std::alloc::Global;
-
-fn change_of(change: MessageChange) -> Change
-    ensures { change_meant result ≡ change_asked change }
-{
-    match change {
-        MessageChange::Renew => Change::Renew,
-        MessageChange::Remove(member) => Change::Remove(member),
-        MessageChange::Add { member, .. } => Change::Add(member),
-    }
-}
 
 // The newcomer's leaf key; where nobody comes, any key does, since it is not looked at.
 fn newcomer_key(change: MessageChange) -> PublicKey
@@ -44,7 +33,7 @@ pub fn committer_orders(
 {
     let commit = Commit {
         committer: handset.member,
-        change: change_of(change),
+        change: change.asked(),
     };
     let readied = ready(
         alloc,

@@ -11,11 +11,11 @@ use crate::give::give;
 use crate::height::Height;
 use crate::number::{key_height, key_number};
 use crate::order::Order;
-use crate::sides::{Sides, sides_of};
+use crate::sides::sides_of;
 use crate::slots::{key_slot, path_slot};
 use crate::step::PathStep;
 use commits::path_counts;
-use ratchet_tree::{MemberId, Part, Split};
+use ratchet_tree::{MemberId, Part, Sides, Split};
 use std::alloc::AllocError;
 
 // Opens the box that reaches the member, on the other side of the committer's path; answers the level of what is in it.

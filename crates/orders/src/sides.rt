@@ -1,16 +1,9 @@
 // The halves of a part as a member below sees them.
 ghost use Rattle.orders.specs.Sides.{SidesOf};
 
-use ratchet_tree::{MemberId, Part};
+use ratchet_tree::{MemberId, Part, Sides};
 
-// The half that the member sits in, and the other.
-#[derive(Clone, Copy)]
-pub struct Sides<'a> {
-    pub own: Part<'a>,
-    pub other: Part<'a>,
-}
-
-// Who isn't in the left half is looked for in the right one.
+// Who isn't in the left half is looked for in the right one, as the rules go; `Sides::of` has none where neither seats it.
 pub fn sides_of<'a>(left: Part<'a>, right: Part<'a>, member: MemberId) -> Sides<'a>
     ensures { SidesOf member.0 left.entry right.entry result }
 {

@@ -11,7 +11,7 @@ use tree_files::{FileError, read_tree};
 pub fn start(alloc: Global, member: &[u8], file: &[u8]) -> Result<Handset, FileError>
     ensures value { Started member.now file.now result }
 {
-    let number = read_number(member).ok_or(FileError::Refused(Refusal::Malformed))?;
+    let number = read_number(member).ok_or(Refusal::Malformed)?;
     let (epoch, tree) = read_tree(alloc, file)?;
     Ok(Handset {
         member: MemberId(number),
