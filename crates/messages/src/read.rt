@@ -23,6 +23,7 @@ fn change_named(kind: u8, other: MemberId) -> Option<Change>
 fn read_header(bytes: &[u8]) -> Option<(Header, &[u8])>
     ensures { Reads HeaderFits header_bytes bytes.now result }
 {
+    // a slice pattern takes no `?`
     let [5, e0, e1, e2, e3, kind, c0, c1, o0, o1, rest @ ..] = bytes else {
         return None;
     };

@@ -44,6 +44,7 @@ pub fn compose(
         committer: handset.member,
         change: change.asked(),
     };
+    // the refusal is what may be there, so a `?` would end the other way
     if let Some(refusal) = verdict(&handset.tree, handset.epoch, commit) {
         return Err(CommitError::Refused(refusal));
     }

@@ -137,7 +137,8 @@ impl CommitView<'_> {
         }
     }
 
-    // The same as a list.
+    // The same as a list. Each list is made in three lines: a function that takes the writing as a closure gets no
+    // generated contract for one that passes a `&mut` on.
     pub fn orders(self, alloc: Global, member: MemberId) -> Result<Vec<Order>, AllocError>
         ensures { IfOk result (λ v. map order_of v.items ≡ map cap_order (orders_on member.0 self.entry.committer.0 (change_asked self.entry.change) (init_keys self.entry.change) (part_tree self.entry.before) (part_tree self.entry.readied))) }
     {

@@ -74,6 +74,7 @@ fn has_merged(part: Part, unmerged: &[MemberId]) -> bool
 fn is_merging(node: &Node, part: Part) -> bool
     ensures { result ≡ merges (parent_of node.now) (part_tree part.entry) }
 {
+    // no `is_none_or`: of a closure that asks a part, the check learns nothing
     let Some(keyed) = node.node_key() else {
         return true;
     };
