@@ -1,7 +1,8 @@
 // What a committer makes of its vault's answers, and what others make of that. The numbers are from docs/RULES.md, by hand.
 #[cfg(test)]
 mod tests {
-    use commits::{CommitError, Epoch};
+    use commits::Change::{Add, Remove, Renew};
+    use commits::{Change, CommitError, Epoch};
     use messages::{Handset, MessageChange, VaultAnswers, compose, take};
     use ratchet_tree::{MemberId, PublicKey, RatchetTree};
     use std::alloc::Global;
@@ -9,13 +10,12 @@ mod tests {
     use std::test::Fail;
 
     // A member's handset in a group of 0 to `last`.
-    fn handset(heap: Global, member: u16, epoch: u32, last: u16) -> Result<Handset, Fail> {
-        let mut tree = RatchetTree::founded(heap, MemberId(0), PublicKey([0; 32]))?;
+    fn handset(alloc: Global, member: u16, epoch: u32, last: u16) -> Result<Handset, Fail> {
+        let mut tree = RatchetTree::founded(alloc, MemberId(0), PublicKey([0; 32]))?;
         for id in 0..last {
-            let Ok(next) = tree.with_member(heap, MemberId(id + 1), PublicKey([1; 32])) else {
-                return Err(Fail::new("no memory for the tree"));
-            };
-            tree = next;
+            tree = tree
+                .with_member(alloc, MemberId(id + 1), PublicKey([1; 32]))
+                .map_err(|_| Fail::new("no memory for the tree"))?;
         }
         Ok(Handset {
             member: MemberId(member),
@@ -24,12 +24,12 @@ mod tests {
         })
     }
 
-    fn change(kind: u8, other: u16) -> MessageChange {
-        match kind {
-            1 => MessageChange::Renew,
-            2 => MessageChange::Remove(MemberId(other)),
-            _ => MessageChange::Add {
-                member: MemberId(other),
+    fn with_keys(change: Change) -> MessageChange {
+        match change {
+            Renew => MessageChange::Renew,
+            Remove(member) => MessageChange::Remove(member),
+            Add(member) => MessageChange::Add {
+                member,
                 leaf_key: PublicKey([5; 32]),
                 init_key: PublicKey([6; 32]),
             },
@@ -46,27 +46,20 @@ mod tests {
     // What the handset of this member makes in a group of 0 and 1 of so many halves and bytes of boxes; 0 where it makes a message, and 0, 1 and the newcomer take it.
     fn answer(
         rt: &impl Abort,
-        heap: Global,
+        alloc: Global,
         maker: &Handset,
-        kind: u8,
-        other: u16,
+        change: Change,
         halves: u8,
         boxes: usize,
     ) -> Result<u8, Fail> {
-        let mut keys = Vec::new(heap);
-        for i in 0..halves {
-            keys.push(PublicKey([i; 32]))?;
-        }
-        let mut sealed = Vec::new(heap);
-        for _ in 0..boxes {
-            sealed.push(4)?;
-        }
+        let keys: Vec<PublicKey> = (0..halves).map(|i| PublicKey([i; 32])).collect(alloc)?;
+        let sealed = vec![in alloc; 4; boxes]?;
         let answers = VaultAnswers {
             halves: &keys,
             boxes: &sealed,
         };
-        match compose(heap, maker, change(kind, other), answers) {
-            Ok(bytes) => taken(rt, heap, maker.epoch.0, kind, other, &bytes),
+        match compose(alloc, maker, with_keys(change), answers) {
+            Ok(bytes) => taken(rt, alloc, maker.epoch.0, change, &bytes),
             Err(error) => number(error),
         }
     }
@@ -74,16 +67,19 @@ mod tests {
     // What the handsets of 0 and 1, and of whom an add names, answer: 0 where all take the message and come to the next epoch.
     fn taken(
         rt: &impl Abort,
-        heap: Global,
+        alloc: Global,
         epoch: u32,
-        kind: u8,
-        other: u16,
+        change: Change,
         bytes: &[u8],
     ) -> Result<u8, Fail> {
-        let newcomer = if kind == 3 { other } else { 0 };
+        let newcomer = if let Add(member) = change {
+            member.0
+        } else {
+            0
+        };
         for member in [0, 1, newcomer] {
-            let mut taker = handset(heap, member, epoch, 1)?;
-            if let Err(error) = take(heap, &mut taker, bytes) {
+            let mut taker = handset(alloc, member, epoch, 1)?;
+            if let Err(error) = take(alloc, &mut taker, bytes) {
                 return number(error);
             }
             assert_eq!(rt; taker.epoch.0.saturating_sub(epoch), 1);
@@ -93,45 +89,45 @@ mod tests {
 
     #[test]
     fn messages_made(rt: HostRuntime) -> Result<(), Fail> {
-        // whose handset, its epoch, kind, other member, halves, bytes of boxes, and the number
-        let rows: [(u16, u32, u8, u16, u8, usize, u8); 30] = [
-            (0, 7, 1, 0, 2, 48, 0),
-            (1, 7, 1, 0, 2, 48, 0),
-            (0, 0, 1, 0, 2, 48, 0),
-            (0, 4294967294, 1, 0, 2, 48, 0),
-            (0, 7, 2, 1, 1, 0, 0),
-            (1, 7, 2, 0, 1, 0, 0),
-            (0, 7, 3, 2, 3, 144, 0),
-            (1, 7, 3, 2, 3, 144, 0),
-            (0, 7, 3, 65534, 3, 144, 0),
+        // whose handset, its epoch, what is asked, halves, bytes of boxes, and the number
+        let rows: [(u16, u32, Change, u8, usize, u8); 30] = [
+            (0, 7, Renew, 2, 48, 0),
+            (1, 7, Renew, 2, 48, 0),
+            (0, 0, Renew, 2, 48, 0),
+            (0, 4294967294, Renew, 2, 48, 0),
+            (0, 7, Remove(MemberId(1)), 1, 0, 0),
+            (1, 7, Remove(MemberId(0)), 1, 0, 0),
+            (0, 7, Add(MemberId(2)), 3, 144, 0),
+            (1, 7, Add(MemberId(2)), 3, 144, 0),
+            (0, 7, Add(MemberId(65534)), 3, 144, 0),
             // no leaf key, too few or too many keys
-            (0, 7, 1, 0, 0, 48, 7),
-            (0, 7, 1, 0, 1, 48, 7),
-            (0, 7, 1, 0, 3, 48, 7),
-            (0, 7, 2, 1, 0, 0, 7),
-            (0, 7, 2, 1, 2, 0, 7),
+            (0, 7, Renew, 0, 48, 7),
+            (0, 7, Renew, 1, 48, 7),
+            (0, 7, Renew, 3, 48, 7),
+            (0, 7, Remove(MemberId(1)), 0, 0, 7),
+            (0, 7, Remove(MemberId(1)), 2, 0, 7),
             // too few or too many boxes, or a part of one
-            (0, 7, 1, 0, 2, 0, 7),
-            (0, 7, 1, 0, 2, 96, 7),
-            (0, 7, 1, 0, 2, 47, 7),
-            (0, 7, 1, 0, 2, 49, 7),
-            (0, 7, 3, 2, 3, 96, 7),
-            (0, 7, 2, 1, 1, 1, 7),
+            (0, 7, Renew, 2, 0, 7),
+            (0, 7, Renew, 2, 96, 7),
+            (0, 7, Renew, 2, 47, 7),
+            (0, 7, Renew, 2, 49, 7),
+            (0, 7, Add(MemberId(2)), 3, 96, 7),
+            (0, 7, Remove(MemberId(1)), 1, 1, 7),
             // who may not, whatever the vault gave
-            (9, 7, 1, 0, 2, 48, 3),
-            (9, 7, 3, 9, 3, 144, 3),
-            (9, 7, 1, 0, 0, 0, 3),
-            (0, 7, 2, 0, 1, 0, 4),
-            (0, 7, 2, 5, 0, 0, 4),
-            (0, 7, 2, 65535, 1, 0, 4),
-            (0, 7, 3, 1, 3, 144, 5),
-            (0, 7, 3, 65535, 0, 0, 5),
-            (0, 4294967295, 1, 0, 2, 48, 9),
-            (9, 4294967295, 1, 0, 0, 0, 9),
+            (9, 7, Renew, 2, 48, 3),
+            (9, 7, Add(MemberId(9)), 3, 144, 3),
+            (9, 7, Renew, 0, 0, 3),
+            (0, 7, Remove(MemberId(0)), 1, 0, 4),
+            (0, 7, Remove(MemberId(5)), 0, 0, 4),
+            (0, 7, Remove(MemberId(65535)), 1, 0, 4),
+            (0, 7, Add(MemberId(1)), 3, 144, 5),
+            (0, 7, Add(MemberId(65535)), 0, 0, 5),
+            (0, 4294967295, Renew, 2, 48, 9),
+            (9, 4294967295, Renew, 0, 0, 9),
         ];
-        for (member, epoch, kind, other, halves, boxes, number) in rows {
+        for (member, epoch, change, halves, boxes, number) in rows {
             let maker = handset(rt.alloc(), member, epoch, 1)?;
-            let found = answer(&rt, rt.alloc(), &maker, kind, other, halves, boxes)?;
+            let found = answer(&rt, rt.alloc(), &maker, change, halves, boxes)?;
             assert_eq!(rt; found, number);
         }
         Ok(())
@@ -140,8 +136,14 @@ mod tests {
     #[test]
     fn full_group(rt: HostRuntime) -> Result<(), Fail> {
         let maker = handset(rt.alloc(), 0, 7, 1023)?;
-        assert_eq!(rt; answer(&rt, rt.alloc(), &maker, 3, 1024, 3, 144)?, 6);
-        assert_eq!(rt; answer(&rt, rt.alloc(), &maker, 3, 5, 3, 144)?, 5);
+        assert_eq!(rt;
+            answer(&rt, rt.alloc(), &maker, Add(MemberId(1024)), 3, 144)?,
+            6
+        );
+        assert_eq!(rt;
+            answer(&rt, rt.alloc(), &maker, Add(MemberId(5)), 3, 144)?,
+            5
+        );
         Ok(())
     }
 }

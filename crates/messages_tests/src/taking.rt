@@ -8,34 +8,32 @@ mod tests {
     use std::test::Fail;
 
     // What the handset of this member answers to some bytes, in a group of 0 and 1 at an epoch; 0 where it takes them.
-    fn answer(heap: Global, member: u16, epoch: u32, bytes: &[u8]) -> Result<u8, Fail> {
-        let founded = RatchetTree::founded(heap, MemberId(0), PublicKey([0; 32]))?;
-        let Ok(tree) = founded.with_member(heap, MemberId(1), PublicKey([1; 32])) else {
-            return Err(Fail::new("no memory for the tree"));
-        };
+    fn answer(alloc: Global, member: u16, epoch: u32, bytes: &[u8]) -> Result<u8, Fail> {
+        let founded = RatchetTree::founded(alloc, MemberId(0), PublicKey([0; 32]))?;
+        let tree = founded
+            .with_member(alloc, MemberId(1), PublicKey([1; 32]))
+            .map_err(|_| Fail::new("no memory for the tree"))?;
         let mut handset = Handset {
             member: MemberId(member),
             tree,
             epoch: Epoch(epoch),
         };
-        match take(heap, &mut handset, bytes) {
+        match take(alloc, &mut handset, bytes) {
             Ok(_) => Ok(0),
-            Err(error) => match error {
-                CommitError::Refused(refusal) => Ok(refusal.number()),
-                CommitError::OutOfMemory => Err(Fail::new("no memory for the letter")),
-            },
+            Err(CommitError::Refused(refusal)) => Ok(refusal.number()),
+            Err(CommitError::OutOfMemory) => Err(Fail::new("no memory for the letter")),
         }
     }
 
-    // A letter of epoch 8 by member 0: its kind, the other member, how many node keys and boxes.
+    // A letter of epoch 8 by member 0: the byte of its kind, whatever it is, the other member, how many node keys and boxes.
     fn letter(
-        heap: Global,
+        alloc: Global,
         kind: u8,
         other: [u8; 2],
         keys: u8,
         boxes: u8,
     ) -> Result<Vec<u8>, Fail> {
-        let mut bytes = Vec::new(heap);
+        let mut bytes = Vec::new(alloc);
         bytes.extend_from_slice(&[5, 0, 0, 0, 8, kind, 0, 0])?;
         bytes.extend_from_slice(&other)?;
         if kind == 3 {
@@ -43,13 +41,9 @@ mod tests {
         }
         bytes.extend_from_slice(&[2; 32])?;
         bytes.push(keys)?;
-        for _ in 0..keys {
-            bytes.extend_from_slice(&[3; 32])?;
-        }
+        bytes.extend_from_slice(&vec![in alloc; 3; 32 * usize::from(keys)]?)?;
         bytes.extend_from_slice(&[0, boxes])?;
-        for _ in 0..boxes {
-            bytes.extend_from_slice(&[4; 48])?;
-        }
+        bytes.extend_from_slice(&vec![in alloc; 4; 48 * usize::from(boxes)]?)?;
         Ok(bytes)
     }
 
@@ -93,37 +87,36 @@ mod tests {
 
     #[test]
     fn spoilt_bytes(rt: HostRuntime) -> Result<(), Fail> {
-        let heap = rt.alloc();
-        let mut bytes = letter(heap, 3, [0, 2], 2, 3)?;
+        let alloc = rt.alloc();
+        let mut bytes = letter(alloc, 3, [0, 2], 2, 3)?;
         // the epoch of the handset, and the number
         let epochs: [(u32, u8); 5] = [(7, 0), (6, 2), (8, 2), (0, 2), (4294967295, 9)];
         for (epoch, number) in epochs {
-            assert_eq!(rt; answer(heap, 1, epoch, &bytes)?, number);
+            assert_eq!(rt; answer(alloc, 1, epoch, &bytes)?, number);
         }
         for length in 0..bytes.len() {
-            assert_eq!(rt; answer(heap, 1, 7, &bytes[0..length])?, 1);
+            assert_eq!(rt; answer(alloc, 1, 7, &bytes[0..length])?, 1);
         }
         bytes.push(0)?;
-        assert_eq!(rt; answer(heap, 1, 7, &bytes)?, 1);
+        assert_eq!(rt; answer(alloc, 1, 7, &bytes)?, 1);
         Ok(())
     }
 
     // The bytes with one of them replaced.
-    fn patched(heap: Global, bytes: &[u8], at: usize, value: u8) -> Result<Vec<u8>, Fail> {
-        let mut out = Vec::new(heap);
-        for i in 0..bytes.len() {
-            let byte = if i == at { value } else { bytes[i] };
-            out.push(byte)?;
+    fn patched(alloc: Global, bytes: &[u8], at: usize, value: u8) -> Result<Vec<u8>, Fail> {
+        let mut out = Vec::from_slice(alloc, bytes)?;
+        if let Some(byte) = out.get_mut(at) {
+            *byte = value;
         }
         Ok(out)
     }
 
     // A renewal, a removal of 1 and an add of 2, each as the rules have it.
-    fn good_letter(heap: Global, kind: u8) -> Result<Vec<u8>, Fail> {
+    fn good_letter(alloc: Global, kind: u8) -> Result<Vec<u8>, Fail> {
         match kind {
-            1 => letter(heap, 1, [255, 255], 1, 1),
-            2 => letter(heap, 2, [0, 1], 0, 0),
-            _ => letter(heap, 3, [0, 2], 2, 3),
+            1 => letter(alloc, 1, [255, 255], 1, 1),
+            2 => letter(alloc, 2, [0, 1], 0, 0),
+            _ => letter(alloc, 3, [0, 2], 2, 3),
         }
     }
 
@@ -187,11 +180,11 @@ mod tests {
             (3, 172, 2, 1, 1),
             (3, 172, 4, 1, 1),
         ];
-        let heap = rt.alloc();
+        let alloc = rt.alloc();
         for (kind, at, value, member, number) in rows {
-            let good = good_letter(heap, kind)?;
-            let bytes = patched(heap, &good, at, value)?;
-            assert_eq!(rt; answer(heap, member, 7, &bytes)?, number);
+            let good = good_letter(alloc, kind)?;
+            let bytes = patched(alloc, &good, at, value)?;
+            assert_eq!(rt; answer(alloc, member, 7, &bytes)?, number);
         }
         Ok(())
     }
@@ -212,12 +205,12 @@ mod tests {
             // number of boxes
             (1, 75, 1, 76, 0, 1, 1),
         ];
-        let heap = rt.alloc();
+        let alloc = rt.alloc();
         for (kind, at, value, also, other, member, number) in rows {
-            let good = good_letter(heap, kind)?;
-            let half = patched(heap, &good, at, value)?;
-            let bytes = patched(heap, &half, also, other)?;
-            assert_eq!(rt; answer(heap, member, 7, &bytes)?, number);
+            let good = good_letter(alloc, kind)?;
+            let half = patched(alloc, &good, at, value)?;
+            let bytes = patched(alloc, &half, also, other)?;
+            assert_eq!(rt; answer(alloc, member, 7, &bytes)?, number);
         }
         Ok(())
     }

@@ -12,8 +12,8 @@ mod tests {
 
     // The bytes that a row stands for: a digit is that byte, `a` and `b` are 10 and 11, `y` and `z` 254 and 255,
     // `K` a key of 32 bytes; spaces are for the eye.
-    fn file(heap: Global, row: &[u8]) -> Result<Vec<u8>, Fail> {
-        let mut bytes = Vec::new(heap);
+    fn file(alloc: Global, row: &[u8]) -> Result<Vec<u8>, Fail> {
+        let mut bytes = Vec::new(alloc);
         for sign in row {
             match *sign {
                 b' ' => {}
@@ -30,30 +30,28 @@ mod tests {
 
     fn is_written_as(
         rt: &impl Abort,
-        heap: Global,
+        alloc: Global,
         epoch: Epoch,
         tree: &RatchetTree,
         bytes: &[u8],
     ) -> Result<(), Fail> {
-        let mut out = Vec::new(heap);
-        let Ok(()) = write_tree(&mut out, epoch, tree) else {
-            return Err(Fail::new("a tree that was read is not written"));
-        };
+        let mut out = Vec::new(alloc);
+        write_tree(&mut out, epoch, tree).map_err(|_| Fail::new(
+            "a tree that was read is not written",
+        ))?;
         assert!(rt; out.as_slice() == bytes);
         Ok(())
     }
 
     // The number of the refusal; 0 for a file that is read, and then it is written as it was.
-    fn answer(rt: &impl Abort, heap: Global, bytes: &[u8]) -> Result<u8, Fail> {
-        match read_tree(heap, bytes) {
+    fn answer(rt: &impl Abort, alloc: Global, bytes: &[u8]) -> Result<u8, Fail> {
+        match read_tree(alloc, bytes) {
             Ok((epoch, tree)) => {
-                is_written_as(rt, heap, epoch, &tree, bytes)?;
+                is_written_as(rt, alloc, epoch, &tree, bytes)?;
                 Ok(0)
             }
-            Err(error) => match error {
-                FileError::Refused(refusal) => Ok(refusal.number()),
-                FileError::OutOfMemory => Err(Fail::new("no memory for the file")),
-            },
+            Err(FileError::Refused(refusal)) => Ok(refusal.number()),
+            Err(FileError::OutOfMemory) => Err(Fail::new("no memory for the file")),
         }
     }
 
@@ -131,25 +129,25 @@ mod tests {
 
     #[test]
     fn every_length(rt: HostRuntime) -> Result<(), Fail> {
-        let heap = rt.alloc();
+        let alloc = rt.alloc();
         let mut bytes = file(
-            heap,
+            alloc,
             b"6 0006 3  100K 0 105K 1K0105 102K 0 103K 1K00 104K 0 0 0 0 0 0",
         )?;
         for length in 0..bytes.len() {
-            assert_eq!(rt; answer(&rt, heap, &bytes[0..length])?, 1);
+            assert_eq!(rt; answer(&rt, alloc, &bytes[0..length])?, 1);
         }
-        assert_eq!(rt; answer(&rt, heap, &bytes)?, 0);
+        assert_eq!(rt; answer(&rt, alloc, &bytes)?, 0);
         bytes.push(0)?;
-        assert_eq!(rt; answer(&rt, heap, &bytes)?, 1);
+        assert_eq!(rt; answer(&rt, alloc, &bytes)?, 1);
         Ok(())
     }
 
     // The largest group, with a key at every parent.
     #[test]
     fn largest_tree(rt: HostRuntime) -> Result<(), Fail> {
-        let heap = rt.alloc();
-        let mut bytes = file(heap, b"6 0000 a")?;
+        let alloc = rt.alloc();
+        let mut bytes = file(alloc, b"6 0000 a")?;
         for index in 0..2047u16 {
             bytes.push(1)?;
             if index % 2 == 0 {
@@ -160,7 +158,7 @@ mod tests {
                 bytes.extend_from_slice(&[0, 0])?;
             }
         }
-        assert_eq!(rt; answer(&rt, heap, &bytes)?, 0);
+        assert_eq!(rt; answer(&rt, alloc, &bytes)?, 0);
         Ok(())
     }
 }
