@@ -39,7 +39,7 @@ struct OwnHalf {
     reached: bool,
 }
 
-// None where the committer sits in neither half.
+// None where the committer sits in neither half. A left and a right arm, since the answer is where the half stands.
 fn own_half(part: Part, committer: MemberId) -> Option<OwnHalf>
     ensures { IsOwnHalf committer.0 part.entry.height part.entry.nodes.now result }
 {

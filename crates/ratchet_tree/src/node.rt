@@ -1,6 +1,7 @@
 // What stands at a node: a leaf or a parent.
 use crate::member::{MemberId, PublicKey};
 
+// Blank or occupied, by a rule of the project in so many words and not as an Option; so is a parent blank or keyed.
 #[derive(Drop)]
 pub enum Leaf {
     Blank,
