@@ -49,6 +49,7 @@ fn add_in(
         seat(&mut nodes[0], member, key);
         return Ok(());
     }
+    // by a rule of the project the half that is written is lent on in sight, the left one or the right one
     let middle = nodes.len() / 2;
     let left = Part {
         nodes: left_half(nodes),

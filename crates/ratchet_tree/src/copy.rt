@@ -58,7 +58,7 @@ pub(crate) fn double(nodes: &mut Vec<Node>) -> Result<(), AllocError>
     ensures { Appends (map seen nodes.old.items) (replicate (length nodes.old.items + 1) (blank_leaf, blank_parent)) (map seen nodes.new.items) result }
 {
     let count = nodes.len();
-    // the new indices themselves are walked, since they tell which nodes are leaves
+    // a `for` over the new indices, which tell the leaves: by `extend` of a map, how many nodes come stays unproved
     for index in count..2 * count + 1 {
         nodes.push(blank_node(index))?;
     }

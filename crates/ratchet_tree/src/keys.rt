@@ -157,13 +157,8 @@ impl<'a> Part<'a> {
         ensures { option_to_list result ≡ held_at member.0 height (part_tree self.entry) }
     {
         match self.split() {
-            Split::Leaf(node) => {
-                if height == 0 {
-                    node.leaf_key_of(member)
-                } else {
-                    None
-                }
-            }
+            Split::Leaf(node) if height == 0 => node.leaf_key_of(member),
+            Split::Leaf(_) => None,
             Split::Parent(left, node, right) => {
                 if height == self.height {
                     if self.is_seated(member) {

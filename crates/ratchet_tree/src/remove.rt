@@ -40,11 +40,12 @@ fn remove_in(nodes: &mut [Node], height: usize, member: MemberId)
     let part = Part { nodes, height };
     if part.is_seated(member) {
         let (left, rest) = halves_mut(nodes);
-        if let Some((node, right)) = rest.split_first_mut() {
-            blank(node);
-            remove_in(left, height - 1, member);
-            remove_in(right, height - 1, member);
-        }
+        let Some((node, right)) = rest.split_first_mut() else {
+            unreachable!();
+        };
+        blank(node);
+        remove_in(left, height - 1, member);
+        remove_in(right, height - 1, member);
     }
 }
 

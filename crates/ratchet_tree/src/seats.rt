@@ -34,6 +34,7 @@ impl Seat {
 fn note_member(seats: &mut [Seat], member: MemberId, leaf: LeafIndex)
     ensures { NotedMember member.0 leaf seats.old seats.new }
 {
+    // by index: a write through `get_mut` tells nothing of what the table holds then
     let index = usize::from(member.0);
     if index < seats.len() {
         seats[index] = seats[index].and_at(leaf);

@@ -21,8 +21,8 @@ remove_in-requires t c =
     let cut = handed-back _ _ _ _ _ _ c.if-height-eq0.false c.requires.0 c.halves_mut-left.ensures.value c.halves_mut-left.ensures.len c.in-Some.ensures.cases.0 in
     (omega arith, (cut.left, omega arith))
 
-pub remove_in-requires-in-Some : goal.remove_in-requires-in-Some
-remove_in-requires-in-Some t c =
+pub remove_in-requires-then-is_seated : goal.remove_in-requires-then-is_seated
+remove_in-requires-then-is_seated t c =
     let cut = handed-back _ _ _ _ _ _ c.if-height-eq0.false c.requires.0 c.halves_mut-left.ensures.value c.halves_mut-left.ensures.len c.in-Some.ensures.cases.0 in
     (omega arith, (cut.right, omega arith))
 
@@ -32,14 +32,14 @@ returns-in-Some t c =
     let cut = handed-back _ _ _ _ _ _ above c.requires.0 c.halves_mut-left.ensures.value c.halves_mut-left.ensures.len c.in-Some.ensures.cases.0 in
     let m = c.args.member.0 in
     let start = cut-tree-at c.args.height above cut in
-    cut-tree-at c.args.height above (record { is = refl; left = c.remove_in.auto.nodes ∙ cut.left; right = c.remove_in-in-Some.auto.nodes ∙ cut.right })
-    ∙ ap (λ p. node p (tree_of (c.args.height - 1) c.remove_in.new.nodes) (tree_of (c.args.height - 1) c.remove_in-in-Some.new.nodes)) c.blank.ensures
-    ∙ ap₂ (λ a b. node blank_parent a b) c.remove_in.ensures c.remove_in-in-Some.ensures
+    cut-tree-at c.args.height above (record { is = refl; left = c.remove_in.auto.nodes ∙ cut.left; right = c.remove_in-then-is_seated.auto.nodes ∙ cut.right })
+    ∙ ap (λ p. node p (tree_of (c.args.height - 1) c.remove_in.new.nodes) (tree_of (c.args.height - 1) c.remove_in-then-is_seated.new.nodes)) c.blank.ensures
+    ∙ ap₂ (λ a b. node blank_parent a b) c.remove_in.ensures c.remove_in-then-is_seated.ensures
     ∙ sym (removed-seated m _ _ _ (ap (seated m) (sym start) ∙ sym c.if-is_seated.ensures))
     ∙ ap (removed m) (sym start)
 
-pub returns-in_default : goal.returns-in_default
-returns-in_default t c =
+pub unreachable-requires : goal.unreachable-requires
+unreachable-requires t c =
     absurd (rest-there _ _ _ _ c.if-height-eq0.false c.requires.0 c.halves_mut-left.ensures.value c.halves_mut-left.ensures.len c.in_default.ensures.cases)
 
 pub returns-else-is_seated : goal.returns-else-is_seated

@@ -7,13 +7,13 @@ use Rattle.ratchet_tree.proofs.Counts.{height-is}
 use Rattle.ratchet_tree.proofs.Holding.{held-leaf, held-above, held-top, held-nowhere, held-left, held-right}
 use Rattle.ratchet_tree.proofs.part.Part.+key_held.Goals as goal
 
-pub returns-then-height-eq0 : goal.returns-then-height-eq0
-returns-then-height-eq0 t c =
+pub returns-in-Leaf : goal.returns-in-Leaf
+returns-in-Leaf t c =
     c.leaf_key_of.ensures ∙ sym (held-leaf c.args.member.0 c.args.height (leaf_of c.in-Leaf.node.now) c.if-height-eq0.true)
     ∙ ap (held_at c.args.member.0 c.args.height) (sym c.in-Leaf.ensures.1)
 
-pub returns-else-height-eq0 : goal.returns-else-height-eq0
-returns-else-height-eq0 t c =
+pub returns-in-Leaf-2 : goal.returns-in-Leaf-2
+returns-in-Leaf-2 t c =
     sym (held-above c.args.member.0 c.args.height (leaf_of c.in-Leaf.node.now) c.if-height-eq0.false)
     ∙ ap (held_at c.args.member.0 c.args.height) (sym c.in-Leaf.ensures.1)
 
