@@ -19,7 +19,7 @@ pub struct PathKeys<'a> {
     pub nodes: &'a [PublicKey],
 }
 
-// Is there anybody in this part to seal to?
+// Is there anybody in this part to seal to? Not by `resolution_count`: the look ends at the first who is.
 fn is_reached(part: Part) -> bool
     ensures { result ≡ not (is_none (resolution (part_tree part.entry))) }
 {

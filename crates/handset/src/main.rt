@@ -35,7 +35,8 @@ status is 0. A file that cannot be read, a wrong call, and an argument that is
 not UTF-8, end with status 1 and print no order.
 ";
 
-// The whole of a file; none, and a line on standard error, where it cannot be read.
+// The whole of a file; none, and a line of our own on standard error, where it cannot be read: as an error of `main` it
+// would be printed in other words.
 fn read_file(rt: &HostRuntime, path: &str) -> anyhow::Result<Option<Vec<u8>>> {
     match fs::read(rt, path) {
         Ok(bytes) => Ok(Some(bytes)),

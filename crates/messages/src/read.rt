@@ -23,7 +23,7 @@ fn change_named(kind: u8, other: MemberId) -> Option<Change>
 fn read_header(bytes: &[u8]) -> Option<(Header, &[u8])>
     ensures { Reads HeaderFits header_bytes bytes.now result }
 {
-    // a slice pattern takes no `?`
+    // one pattern shows all the bytes at the front, which values read one by one would not; it takes no `?`
     let [5, e0, e1, e2, e3, kind, c0, c1, o0, o1, rest @ ..] = bytes else {
         return None;
     };

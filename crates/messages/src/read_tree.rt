@@ -63,7 +63,7 @@ fn read_part<'a>(
 fn read_file_header(bytes: &[u8]) -> Option<(FileHeader, &[u8])>
     ensures { Reads FitsFile file_head_bytes bytes.now result }
 {
-    // a slice pattern takes no `?`
+    // one pattern shows all the bytes at the front; it takes no `?`
     let [6, e0, e1, e2, e3, depth, rest @ ..] = bytes else {
         return None;
     };

@@ -18,6 +18,7 @@ pub fn take<'a>(
     ensures tree { TakesBytes handset.old bytes.now handset.new result }
     ensures runs { RunsOfLetters }
 {
+    // by a rule of the project the reader's answer is taken apart here, and the refusal returned
     let Ok(message) = read_message(bytes) else {
         return Err(CommitError::Refused(Refusal::Malformed));
     };

@@ -13,7 +13,8 @@ use messages::{Handset, MessageChange};
 use ratchet_tree::PublicKey;
 use std::alloc::Global;
 
-// The newcomer's leaf key; where nobody comes, any key does, since it is not looked at.
+// The newcomer's leaf key; where nobody comes, any key does, since it is not looked at. A message has the committer's
+// own for that, and here there is none yet.
 fn newcomer_key(change: MessageChange) -> PublicKey
     ensures { (own : Key) (t : Tree Key) → readied-of (change_asked change) result t ≡ readied-of (change_asked change) (fresh_in own change) t }
 {

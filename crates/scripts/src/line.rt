@@ -117,6 +117,7 @@ pub fn write_line(out: &mut Vec<u8>, commit: Commit) -> Result<(), AllocError>
     ensures items { out.new.items ≡ (if is_ok result then out.old.items ++ line_bytes commit else out.old.items) }
 {
     let start = out.len();
+    // no `inspect_err`: what a closure that shortens `out` leaves there stays unproved
     if let Err(error) = write_words(out, commit) {
         out.truncate(start);
         return Err(error);

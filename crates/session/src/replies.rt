@@ -31,7 +31,8 @@ fn write_orders(orders: &[Order], out: &mut Vec<u8>) -> Result<(), AllocError>
     Ok(())
 }
 
-// Appends the refusal's number, alone on its line.
+// Appends the refusal's number, alone on its line. `playback` has the same two lines for a script: they share
+// `write_number`, and a crate for both would have no more.
 pub fn refuse(refusal: Refusal, out: &mut Vec<u8>) -> Result<(), AllocError>
     ensures bytes { Appends out.old.items (refusal_text (number_of refusal)) out.new.items result }
 {

@@ -8,6 +8,7 @@ use orders::{Order, Way};
 use std::alloc::AllocError;
 use std::fmt;
 
+// A function and no Display, since the type is of `orders`.
 fn way_word(way: Way) -> &'static str
     ensures { result.now ≡ word_of_way (way_of way) }
 {

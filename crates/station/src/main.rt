@@ -29,19 +29,17 @@ is 0. A wrong call, and an argument that is not UTF-8, end with status 1.
 ";
 
 fn run(rt: &HostRuntime) -> anyhow::Result<ExitCode> {
-    let mut args = env::args(rt)?;
-    let _program = args.next();
-    let (first, second) = (args.next(), args.next());
-    match (&first, &second) {
-        (None, _) => {
-            let alloc = rt.alloc();
+    let alloc = rt.alloc();
+    let words: Vec<String> = env::args(rt)?.collect(alloc)?;
+    match words.as_slice() {
+        [] | [_] => {
             let mut input = Vec::new(alloc);
             rt.stdin().read_to_end(&mut input)?;
             let output = play(alloc, &input)?;
             rt.stdout().write_all(&output)?;
             Ok(ExitCode::SUCCESS)
         }
-        (Some(arg), None) if arg.as_str() == "--help" => {
+        [_, word] if word.as_str() == "--help" => {
             rt.print(HELP)?;
             Ok(ExitCode::SUCCESS)
         }

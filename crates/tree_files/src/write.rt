@@ -35,6 +35,7 @@ fn write_leaf(out: &mut Vec<u8>, node: &Node) -> Result<(), AllocError>
     }
 }
 
+// That its members can be counted is asked here of them, and above of a parent, a part and the tree: four facts.
 fn write_keyed(out: &mut Vec<u8>, node_key: Keyed) -> Result<(), AllocError>
     requires { length node_key.unmerged.now < 65536 }
     ensures items { Appends out.old.items (parent_bytes (keyed node_key.entry.key (numbers node_key.entry.unmerged.now))) out.new.items result }
@@ -53,7 +54,7 @@ fn write_parent(out: &mut Vec<u8>, node: &Node) -> Result<(), AllocError>
 {
     match node.node_key() {
         Some(node_key) => write_keyed(out, node_key),
-        None => out.extend_from_slice(&[0]),
+        None => Ok(out.push(0)?),
     }
 }
 
