@@ -34,7 +34,8 @@ fn counts_agree(counts: Counts, message: CommitMessage) -> bool
     counts.node_keys == message.node_keys.len() / 32 && counts.boxes == message.boxes.len() / 48
 }
 
-// The tree that the message's path is laid on; or why the handset does not take the message.
+// The tree that the message's path is laid on; or why the handset does not take the message. Handset and message stay two
+// parameters here and in the calls above, which are public.
 pub fn accept(
     alloc: Global,
     handset: &Handset,

@@ -21,6 +21,7 @@ fn kind_and_other(change: Change) -> (u8, MemberId)
     }
 }
 
+// The front in one piece, byte by byte, as it is read.
 fn write_header(out: &mut Vec<u8>, header: Header) -> Result<(), AllocError>
     ensures items { Appends out.old.items (header_bytes header) out.new.items result }
     ensures fits { HeaderFits header }

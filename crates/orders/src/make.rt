@@ -45,7 +45,8 @@ impl PathStep<'_> {
         self.rise(&[Order::Public(key_slot(self.height))], out)
     }
 
-    // The same, with the parent's old node key forgotten first.
+    // The same, with the parent's old node key forgotten first. So does `pass` with another call behind, which would have
+    // to come as a closure for two lines.
     fn lay(
         self,
         alloc: Global,

@@ -161,6 +161,7 @@ impl<'a> Part<'a> {
             Split::Leaf(_) => None,
             Split::Parent(left, node, right) => {
                 if height == self.height {
+                    // an `if`: by `then` and `flatten` it says no more
                     if self.is_seated(member) {
                         node.node_key_held(member)
                     } else {

@@ -1,4 +1,5 @@
-// A table of where members sit, by their numbers: one way over the leaves then serves many members.
+// A table of where members sit, by their numbers: one way over the leaves then serves many members. A Vec and no map,
+// since a number is small and finds its entry by itself.
 ghost use Rattle.std.specs.Prelude.{◌≡◌, IfOk};
 ghost use Rattle.ratchet_tree.specs.Nodes.{leaf_of};
 ghost use Rattle.ratchet_tree.specs.Parts.{part_tree};
@@ -61,7 +62,7 @@ pub(crate) fn seats_of(
     let largest = members.iter().map(|member| member.0).max().unwrap_or(0);
     let mut seats = Vec::new(alloc);
     seats.resize(usize::from(largest) + 1, Seat::Nowhere)?;
-    // leaves stand at the even indices
+    // leaves stand at the even indices, and the index tells which leaf it is
     for (index, node) in part.nodes.iter().enumerate() {
         if index % 2 == 0 {
             note_leaf(&mut seats, node, LeafIndex(index / 2));

@@ -46,7 +46,8 @@ fn read_verb(word: &[u8]) -> Option<Verb>
     }
 }
 
-// The commit that a line asks for.
+// The commit that a line asks for. Two words take a pair: what they make of it is written out, as a variant passed for a
+// function would be harder to read.
 pub fn read_line(line: &[u8]) -> Option<Commit>
     ensures { ReadsLine line.now result }
 {
@@ -80,7 +81,8 @@ pub fn write_founder(out: &mut Vec<u8>, founder: MemberId) -> Result<(), AllocEr
     write_number(out, u64::from(founder.0))
 }
 
-// Appends `front` and a member's number.
+// Appends `front` and a member's number. Piece by piece and not by Display, which doesn't tell what it leaves where memory
+// fails: a line that wasn't finished is taken back.
 fn write_member(out: &mut Vec<u8>, front: &[u8], member: MemberId) -> Result<(), AllocError>
     ensures { Appends out.old.items out.new.items (front.now ++ decimal member.0) result }
 {

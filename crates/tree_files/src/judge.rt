@@ -36,7 +36,7 @@ fn is_leaf_merged(node: &Node, unmerged: &[MemberId]) -> bool
         .is_some_and(|occupant| !is_among(unmerged, occupant.member))
 }
 
-// Is nobody named twice?
+// Is nobody named twice? By recursion, as the rule is stated: each is compared with those behind.
 #[tactic(auto, unfolding(theory::specs::Wellformed::distinct))]
 fn is_distinct(members: &[MemberId]) -> bool
     ensures { result ≡ distinct (numbers members.now) }

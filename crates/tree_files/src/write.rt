@@ -94,6 +94,7 @@ fn write_part(out: &mut Vec<u8>, part: Part) -> Result<(), AllocError>
     }
 }
 
+// The front in one piece, byte by byte, as it is read.
 fn write_file_header(out: &mut Vec<u8>, header: FileHeader) -> Result<(), AllocError>
     requires { header.depth ≤ max_depth }
     ensures items { Appends out.old.items (file_head_bytes header) out.new.items result }
