@@ -54,8 +54,8 @@ fn are_seated(members: &[MemberId], part: Part) -> bool
     members.iter().all(|member| part.is_seated(*member))
 }
 
-// The three walks below go over leaves, each with a test and an `&&` or `||` of its own: a walk for all would take both as
-// closures, and say of them what each line here says by itself.
+// The three walks below go by recursion, as the rules are stated, and so need no proof of their own: a chain over the
+// leaves would ask for a lemma on lines of nodes each.
 
 // Is somebody seated in the part who isn't unmerged?
 #[tactic(auto, unfolding(theory::specs::Wellformed::some_merged))]
