@@ -54,7 +54,7 @@ fn write_parent(out: &mut Vec<u8>, node: &Node) -> Result<(), AllocError>
 {
     match node.node_key() {
         Some(node_key) => write_keyed(out, node_key),
-        None => Ok(out.push(0)?),
+        None => out.extend_from_slice(&[0]),
     }
 }
 
