@@ -1,7 +1,7 @@
 #!/usr/bin/env python3
 """Counts in src/ the places that older forms leave behind.
 
-    tools/places [--list] [FOLDER]
+    python3 tools/places.py [--list] [FOLDER]
 
 Reads crates/*/src/*.rt below FOLDER (default: here) and prints a line for each kind of place, with how many there are;
 with --list each place too. What only a reader can see (twins, a switch between steps) is not counted here but for what
@@ -34,7 +34,7 @@ PATTERNS = [
     ("4 b a function that copies, converts or prints by hand",
      r"fn (?:push_copy|copy_nodes|number|kind|way_word|hex_digit|write_hex_byte|write_hex|write_long|last_digit|with_digit|change_of|asked|commit_of)\b"),
     ("6 a a length, size or height beside a slice", r"nodes: &mut \[Node\],\s*height: usize|bytes: &\[u8\], size: usize|height: usize, nodes: usize, index: usize|height: usize, nodes: usize, position: usize|let mut digits = \[0; MAX_DIGITS\]"),
-    ("6 b a table indexed by hand", r"seats: &(?:mut )?\[u16\]"),
+    ("6 b a table indexed by hand", r"seats: &(?:mut )?\[(?:u16|Seat)\]"),
     ("6 c text as bytes that the code itself writes", r"&'static \[u8\]"),
 ]
 

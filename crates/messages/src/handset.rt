@@ -46,6 +46,7 @@ pub fn accept(
     if handset.epoch >= Epoch::LAST {
         return Err(CommitError::Refused(Refusal::LastEpoch));
     }
+    // there is a next epoch, since the last was refused above
     if message.epoch != Epoch(handset.epoch.0 + 1) {
         return Err(CommitError::Refused(Refusal::WrongEpoch));
     }

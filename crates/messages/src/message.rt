@@ -23,7 +23,7 @@ pub enum MessageChange {
 }
 
 impl MessageChange {
-    // What is asked of the group.
+    // What is asked of the group. A method and no From, since its name says what it answers.
     pub fn asked(self) -> Change
         ensures value { change_of result ≡ change_asked self }
     {

@@ -40,6 +40,7 @@ pub fn compose(
     ensures bytes { Composes vec_items handset.now change answers.entry.halves.now answers.entry.boxes.now result }
     ensures taken { ComposedIsTaken }
 {
+    // two fields put together, as where a committer's orders are asked for
     let commit = Commit {
         committer: handset.member,
         change: change.asked(),
@@ -52,6 +53,7 @@ pub fn compose(
     let mut node_keys = Vec::new(alloc);
     write_all(&mut node_keys, others)?;
     let message = CommitMessage {
+        // there is a next one, since `verdict` refuses the last
         epoch: Epoch(handset.epoch.0 + 1),
         committer: handset.member,
         change,

@@ -9,7 +9,7 @@ mod tests {
     use std::process::Abort;
     use std::test::Fail;
 
-    // A member's handset in a group of 0 to `last`.
+    // A member's handset in a group of 0 to `last`; `taking` has a group of two of its own.
     fn handset(alloc: Global, member: u16, epoch: u32, last: u16) -> Result<Handset, Fail> {
         let mut tree = RatchetTree::founded(alloc, MemberId(0), PublicKey([0; 32]))?;
         for id in 0..last {

@@ -1,4 +1,5 @@
-// Letters spoilt in every way, each with its number. The numbers are from docs/RULES.md, by hand.
+// Letters spoilt in every way, each with its number. The numbers are from docs/RULES.md, by hand; kinds are bytes, since
+// wrong ones are among them, and 0 is no refusal.
 #[cfg(test)]
 mod tests {
     use commits::{CommitError, Epoch};

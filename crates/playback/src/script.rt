@@ -41,6 +41,7 @@ fn answer(
     };
     match apply(alloc, &mut station.tree, station.epoch, commit, keys) {
         Ok(applied) => {
+            // there is a next one, since `apply` refuses the last
             station.epoch = Epoch(station.epoch.0 + 1);
             let counts = Counts {
                 node_keys: applied.node_keys,
