@@ -1,4 +1,5 @@
 // Laws of the formats, each asked for by the function that names it.
+// A law answers 0, since there is no code in it: so the list of planted bugs knows it.
 ghost use Rattle.messages.specs.Letters.{LetterRuns, LettersArrive, LettersDeliver};
 ghost use Rattle.messages.specs.Laws.{NoMessageIsATree, OneReading, OneTree, RoundTrip};
 

@@ -1,4 +1,5 @@
 // What holds of the lines that are printed, and of plays: each contract is a theorem.
+// A law answers 0, since there is no code in it: so the list of planted bugs knows it.
 ghost use Rattle.playback.specs.Laws.{NodesDiffer, ReportsDiffer, PrintedOnce, StepIsRule, IsRun};
 
 // No two lists of nodes are printed alike.

@@ -1,4 +1,5 @@
 // What holds of the format: each contract is a theorem.
+// A law answers 0, since there is no code in it: so the list of planted bugs knows it.
 ghost use Rattle.scripts.specs.Laws.{LinesDiffer, FoundersDiffer, NoLineIsAFounder, RoundTrip, NoNewline, CutsJoin, LastNewlineOptional};
 
 // No two commits have one line.

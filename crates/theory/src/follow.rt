@@ -1,4 +1,5 @@
 // Rules over any kind of key, well-formed trees, members that keep up, the price of a renewal, and what can be worked out. Each function here has a theorem as its contract.
+// A law answers 0, since there is no code in it: so the list of planted bugs knows it.
 ghost use Rattle.theory.specs.Follow.{Enters, Follows, Logarithmic, Makes, Small};
 ghost use Rattle.theory.specs.Known.{KnownIs};
 ghost use Rattle.theory.specs.Natural.{Naturality};

@@ -1,4 +1,5 @@
 // The laws of trees and of runs. Each function here has one as its contract.
+// A law answers 0, since there is no code in it: so the list of planted bugs knows it.
 ghost use Rattle.theory.specs.Laws.{Removal, Addition, UnmergedSince, Growth, PathLaid, ResolutionEmpty, LevelKept, PositionIs, HeldByHeight};
 
 // A removal empties the member's leaf and every parent above it, and touches nothing else.

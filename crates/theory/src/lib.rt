@@ -1,4 +1,5 @@
 // The rules of a group as definitions, and what is shown of them. Each function here has a theorem as its contract.
+// A law answers 0, since there is no code in it: so the list of planted bugs knows it.
 #![tactic(auto)]
 
 mod follow;

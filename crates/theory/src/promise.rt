@@ -1,4 +1,5 @@
 // What is promised of whole runs. Each function here has one promise as its contract.
+// A law answers 0, since there is no code in it: so the list of planted bugs knows it.
 ghost use Rattle.theory.specs.Opened.{OpenIs};
 ghost use Rattle.theory.specs.Promise.{Sole, OwnFresh, Main, Past, Heals, Reaches};
 

@@ -1,4 +1,5 @@
 // Laws of tree files, each asked for by the function that names it.
+// A law answers 0, since there is no code in it: so the list of planted bugs knows it.
 ghost use Rattle.tree_files.specs.Laws.{FilePrecedence, FileRoundTrip, RunsFiled};
 
 // Bytes of no tree are refused by 1, a tree that breaks a rule by 8, and no other.

@@ -1,4 +1,5 @@
 // The laws of the numbering, each the contract of a function.
+// A law answers 0, since there is no code in it: so the list of planted bugs knows it.
 ghost use Rattle.tree_math.specs.Laws.{ChildHeights, ChildlessLeaves, ChildrenOfParent, Covers, LeafPlaces, Numbering, Outside, ParentOfChildren, RootHasNoParent};
 
 pub fn numbering_holds() -> u8
