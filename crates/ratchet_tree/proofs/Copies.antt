@@ -1,7 +1,7 @@
 -- Lines of nodes that show the same: copies, and blank nodes.
 -- Assumes nothing.
-use Rattle.std.proofs.Common.{◌≡◌, ℕ, zero, suc, ◌+◌, ◌-◌, ◌<◌, ◌≤◌, List, [], ◌∷◌, ◌++◌, map, length, get_or, take, drop, replicate, sym, refl, ap, ◌∙◌, ap₂, append_assoc, arith}
-use Rattle.std.proofs.lemmas.List.{take_more, map-append, replicate_more, length-map, length-append, length-replicate, take-replicate, drop-replicate, get_or-replicate}
+use Rattle.std.proofs.Common.{◌≡◌, ℕ, zero, suc, ◌+◌, ◌-◌, ◌≤◌, List, [], ◌∷◌, ◌++◌, map, length, get_or, take, drop, replicate, sym, refl, ap, ◌∙◌, ap₂, append_assoc, arith}
+use Rattle.std.proofs.lemmas.List.{map-append, replicate_more, length-map, length-append, length-replicate, take-replicate, drop-replicate, get_or-replicate}
 use Rattle.theory.specs.Tree.{Tree, Leaf, Parent, leaf, node, blank_leaf, blank_parent, blank_tree}
 use Rattle.tree_math.specs.Span.{span}
 use Rattle.tree_math.proofs.Span.{span-suc, span_pos, built-left, built-middle, built-right}
@@ -14,13 +14,6 @@ Seen = Leaf PublicKey × Parent PublicKey
 
 abbrev pub blank_seen : Seen
 blank_seen = (blank_leaf, blank_parent)
-
--- one node more
-pub seen_more : (xs xs' ns : List Node) (i : ℕ) (d : Node) → map seen xs' ≡ map seen xs ++ seen (get_or ns i d) ∷ [] → map seen xs ≡ map seen (take i ns) → i < length ns →
-    map seen xs' ≡ map seen (take (i + 1) ns)
-seen_more xs xs' ns i d e m h =
-    e ∙ ap (λ l. l ++ seen (get_or ns i d) ∷ []) m
-    ∙ sym (map-append seen (take i ns) (get_or ns i d ∷ [])) ∙ ap (map seen) (sym (take_more ns i d h))
 
 -- one blank node more
 pub blanks-more : (xs xs' : List Node) (before : List Seen) (x : Node) (k n : ℕ) → xs' ≡ xs ++ x ∷ [] → map seen xs ≡ before ++ replicate k blank_seen → seen x ≡ blank_seen → n ≡ k + 1 →
