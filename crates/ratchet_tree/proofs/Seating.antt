@@ -87,10 +87,8 @@ pub all_told : {K : Type 0} (t : Tree K) (i : ℕ) (es : List seat.Seat) → i �
 all_told t i es b told m l = seat-told t i m (get_or es m Nowhere) b (told m l)
 
 -- an entry that was looked up
-pub seat-read : {K : Type 0} (t : Tree K) (es : List seat.Seat) (m k : ℕ) (e : seat.Seat) (i : LeafIndex) → Seats t es → k ≡ m →
-    (k < length es) × ((d : seat.Seat) → e ≡ get_or es k d) → e ≡ At i → Seat t m (At i)
-seat-read t es m k e i told same read is =
-    subst (Seat t m) (ap (λ (j : ℕ). get_or es j Nowhere) (sym same) ∙ sym (read.1 Nowhere) ∙ is) (told m (omega (arith, same, read.0)))
+pub seat-read : {K : Type 0} (t : Tree K) (es : List seat.Seat) (m : ℕ) (e : seat.Seat) (i : LeafIndex) → Seats t es → (m < length es) × (e ≡ get_or es m Nowhere) → e ≡ At i → Seat t m (At i)
+seat-read t es m e i told read is = subst (Seat t m) (sym read.1 ∙ is) (told m read.0)
 
 -- the node of a leaf, and its key if the member sits there
 module _ (h : ℕ) (ns : List Node) (len : length ns ≡ span h) where

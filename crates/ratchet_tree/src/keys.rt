@@ -12,7 +12,7 @@ ghost use Rattle.ratchet_tree.specs.Seats.{Seats};
 use crate::member::{MemberId, PublicKey};
 use crate::node::{Node, Parent};
 use crate::part::Part;
-use crate::seats::{Seat, seats_of};
+use crate::seats::{Entry, Seat, seat_at, seats_of};
 use crate::split::Split;
 use std::alloc::{AllocError, Global};
 
@@ -74,14 +74,14 @@ impl<'a> Part<'a> {
     // Appends the member's leaf key, looked up where the table says; where that doesn't say it, all leaves are looked at.
     fn push_key_at(
         self,
-        seats: &[Seat],
+        seats: &[Entry],
         member: MemberId,
         out: &mut Vec<PublicKey>,
     ) -> Result<(), AllocError>
         requires { Seats (part_tree self) seats.now }
         ensures { Appends out.old.items (leaf_key member.0 (part_tree self.entry)) out.new.items result }
     {
-        match seats.get(usize::from(member.0)) {
+        match seat_at(seats, member) {
             Some(Seat::Nowhere) => Ok(()),
             Some(Seat::At(leaf)) => push_some(out, self.nodes[2 * leaf.0].leaf_key_of(member)),
             Some(Seat::Several) | None => self.push_leaf_key(member, out),
