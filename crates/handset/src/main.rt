@@ -3,6 +3,7 @@
 
 use anyhow::anyhow;
 use session::{reply, start};
+use std::env::Args;
 use std::io::Write;
 use std::process::ExitCode;
 use std::{env, fs};
@@ -73,13 +74,9 @@ fn wrong_call(rt: &HostRuntime) -> anyhow::Result<ExitCode> {
     Ok(ExitCode::FAILURE)
 }
 
-// Plays the letters in these files, as the member of the group in the tree file.
-fn play(
-    rt: &HostRuntime,
-    member: &str,
-    tree: &str,
-    letters: &[String],
-) -> anyhow::Result<ExitCode> {
+// Plays the letters in these files, as the member of the group in the tree file. A letter's name is let go when its file
+// has been read, since there may be many.
+fn play(rt: &HostRuntime, member: &str, tree: &str, letters: Args) -> anyhow::Result<ExitCode> {
     let Some(tree) = read_file(rt, tree)? else {
         return Ok(ExitCode::FAILURE);
     };
@@ -96,10 +93,13 @@ fn play(
 }
 
 fn run(rt: &HostRuntime) -> anyhow::Result<ExitCode> {
-    let words: Vec<String> = env::args(rt)?.collect(rt.alloc())?;
-    match words.as_slice() {
-        [_, member, tree, letters @ ..] => play(rt, member.as_str(), tree.as_str(), letters),
-        [_, word] if word.as_str() == "--help" => {
+    let mut words = env::args(rt)?;
+    let _program = words.next();
+    let member = words.next();
+    let tree = words.next();
+    match (member.as_deref(), tree.as_deref()) {
+        (Some(member), Some(tree)) => play(rt, member, tree, words),
+        (Some("--help"), None) => {
             rt.print(HELP)?;
             Ok(ExitCode::SUCCESS)
         }
