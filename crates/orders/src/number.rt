@@ -1,5 +1,5 @@
 // Which key of a part's resolution reaches a member, and where the member holds it.
-ghost use Rattle.std.specs.Prelude.{◌≡◌, suc, if◌then◌else◌};
+ghost use Rattle.std.specs.Prelude.{◌≡◌, suc, ◌≤◌, if◌then◌else◌};
 ghost use Rattle.theory.specs.Held.{is_unmerged};
 ghost use Rattle.vault_theory.specs.Numbers.{before, height_of_key, number_of_key};
 ghost use Rattle.ratchet_tree.specs.Nodes.{numbers};
@@ -36,7 +36,8 @@ pub fn key_number(part: Part, member: MemberId) -> usize
 
 // The height at which the member holds that key.
 pub fn key_height(part: Part, member: MemberId) -> Height
-    ensures { result.value ≡ height_of_key member.0 (part_tree part.entry) }
+    ensures value { result.value ≡ height_of_key member.0 (part_tree part.entry) }
+    ensures low { result.value ≤ part.entry.height }
 {
     match part.split() {
         Split::Leaf(_) => Height::leaf(),
