@@ -34,7 +34,7 @@ PATTERNS = [
     ("4 b a function that copies, converts or prints by hand",
      r"fn (?:push_copy|copy_nodes|number|kind|way_word|hex_digit|write_hex_byte|write_hex|write_long|last_digit|with_digit|change_of|asked|commit_of)\b"),
     ("6 a a length, size or height beside a slice", r"nodes: &mut \[Node\],\s*height: usize|bytes: &\[u8\], size: usize|height: usize, nodes: usize, index: usize|height: usize, nodes: usize, position: usize|let mut digits = \[0; MAX_DIGITS\]"),
-    ("6 b a table indexed by hand", r"seats: &(?:mut )?\[(?:u16|Seat)\]"),
+    ("6 b a table indexed by hand", r"seats: &(?:mut )?\[(?:u16|Seat|Entry)\]"),
     ("6 c text as bytes that the code itself writes", r"&'static \[u8\]"),
 ]
 

@@ -1,5 +1,5 @@
-// The lines that are printed: one for each commit, or the number of a refusal. Appended piece by piece, since by Display
-// each piece would be a String first.
+// The lines that are printed: one for each commit, or the number of a refusal. Appended piece by piece and not by Display:
+// each piece has a clause of its own that the laws speak of.
 ghost use Rattle.std.specs.Prelude.{◌∷◌};
 ghost use Rattle.theory.specs.Worked.{cells};
 ghost use Rattle.scripts.specs.Decimal.{decimal};

@@ -32,8 +32,8 @@ fn hex_digit(value: u8) -> u8
     }
 }
 
-// Each byte as two hex digits, its high half first. Put together here: with a `{:02x}` for each byte a committer's orders took
-// three times as long to print.
+// Each byte as two hex digits, its high half first. Put together here: with a `{:02x}` for each byte a committer's orders
+// took three times as long to print.
 fn hex_digits(bytes: &[u8; 32]) -> [u8; 64]
     ensures { result ≡ hex_text bytes.now }
 {
